@@ -148,7 +148,7 @@ read-clocks n rest [] e = refl
 read-clocks n rest (x ∷ xs) e = let s = both (ltb x n) (fineResets n xs) e in rw (s .0, read-clocks n rest xs (s .1))
 
 -- the words of an edge
-abbrev edgeWords : Edge → List ℕ → List ℕ
+abbrev pub edgeWords : Edge → List ℕ → List ℕ
 edgeWords e rest =
     e .source
     ∷ e .target
@@ -217,7 +217,7 @@ complete row a r = subst (λ (ws : List ℕ). parse ws ≡ some a) (r .written) 
         (open-tests, read-invariants n (writeEdges (a .edges)) (a .invariants) (parts .2), read-edges n p (length (writeEdges (a .edges))) (a .edges) (omega arith) (parts .3))
 
 -- what is read is what was written
-abbrev Written : {A : Type 0} → (A → List ℕ → Type 0) → Outcome A → Type 0
+abbrev pub Written : {A : Type 0} → (A → List ℕ → Type 0) → Outcome A → Type 0
 Written P none = Unit {0}
 Written P (some r) = P (r .0) (r .1)
 
@@ -262,7 +262,7 @@ written-conjunction n r (k ∷ ws) h = go (parseConstraints n r k ws) (written-c
     go none w = tt
     go (some x) w = (cc, w .2)
 
-written-invariants : (n p : ℕ) (ws : List ℕ)
+pub written-invariants : (n p : ℕ) (ws : List ℕ)
     → Written
     (λ css rest. (writeInvariants css ++ rest ≡ ws) × (length css ≡ p) × (fineInvariants n css ≡ true))
     (parseInvariants n p ws)
@@ -323,7 +323,7 @@ written-resets n (k ∷ ws) = go (parseClocks n k ws) (written-clocks n k ws)
     go none w = tt
     go (some x) w = (cc, w .2)
 
-written-edge : (n p : ℕ) (ws : List ℕ)
+pub written-edge : (n p : ℕ) (ws : List ℕ)
     → Written (λ e rest. (edgeWords e rest ≡ ws) × (fineEdge n p e ≡ true)) (parseEdge n p ws)
 written-edge n p [] = tt
 written-edge n p (s ∷ []) = tt
@@ -365,7 +365,7 @@ written-edge n p (s ∷ t ∷ ws) =
     go true h none w = tt
     go true h (some x) w = last (x .0) (x .1) (parseResets n (x .1)) h w (written-resets n (x .1))
 
-written-edges : (n p fuel : ℕ) (ws : List ℕ)
+pub written-edges : (n p fuel : ℕ) (ws : List ℕ)
     → Written (λ es rest. (rest ≡ []) × (writeEdges es ≡ ws) × (fineEdges n p es ≡ true)) (parseEdges n p fuel ws)
 written-edges n p fuel [] = (refl, refl, refl)
 written-edges n p zero (w ∷ ws) = tt

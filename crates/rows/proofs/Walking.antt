@@ -6,13 +6,15 @@ use mathlib.Core.Option.{Option, some, none}
 use Prim.Native.Nat.{ℕ, zero, suc, _+_, _-_, _≤_, _<_}
 use native.Mathlib.Omega.{arith}
 use native.Mathlib.Numerals.{add-one}
-use lib.ListN.{length, drop, getD, length-drop, drop-of-length-le}
+use lib.ListN.{length, drop, getD, length-drop, length-append, drop-of-length-le}
 use lib.Seq.{drop-cons}
 use lib.Dec.{ltb, leb}
 use borrow.Author.Tests.{lt-ltb, le-ltb, lt-leb}
 use Rattle.automata.specs.Automata.{Constraint, Edge}
 use Rattle.rows.specs.Parse.{Outcome, prepend, andThen, upperOnly, allRelations, fits, constraint, parseConstraints, parseConjunction, parseInvariants, parseClocks, parseResets, parseEdge, parseEdges}
 use Rattle.rows.specs.Reading.{Leads}
+use Rattle.automata.specs.Rows.{fineEdge}
+use Rattle.rows.proofs.Round.{edgeWords, Written, written-edge}
 
 -- the words from a place on
 pub drop-one : (row : List ℕ) (at : ℕ) → at < length row → drop at row ≡ getD row at 0 ∷ drop (at + 1) row
@@ -195,3 +197,43 @@ module _ (n p : ℕ) (row : List ℕ) (at : ℕ) (room : at + 2 ≤ length row) 
     record { source = getD row at 0; target = getD row (at + 1) 0; guard = guard; resets = resets },
     rw (drop-two row at room, lt-ltb (getD row at 0) p h, lt-ltb (getD row (at + 1) 0) p i, e, f),
   )
+
+-- edges to the end: as much fuel as there are words is enough, since each edge takes some
+edge-shorter : (n p : ℕ) (ws rest : List ℕ) (e : Edge) → parseEdge n p ws ≡ some (e, rest) → length rest < length ws
+edge-shorter n p ws rest e h =
+    let w = subst (Written (λ x r. (edgeWords x r ≡ ws) × (fineEdge n p x ≡ true))) h (written-edge n p ws) in
+    let l : length (edgeWords e rest) ≡ length ws = ap length (w .0) in
+    omega (arith, simp length-append at l)
+
+enough-fuel : (n p f g : ℕ) (ws : List ℕ) → length ws ≤ f → length ws ≤ g → parseEdges n p f ws ≡ parseEdges n p g ws
+enough-fuel n p f g [] h i = refl
+enough-fuel n p zero g (w ∷ ws) h i = absurd (omega arith)
+enough-fuel n p (suc f) zero (w ∷ ws) h i = absurd (omega arith)
+enough-fuel n p (suc f) (suc g) (w ∷ ws) h i =
+    go (parseEdge n p (w ∷ ws)) (λ e rest q. edge-shorter n p (w ∷ ws) rest e q) (λ rest s. enough-fuel n p f g rest (omega arith) (omega arith))
+  where
+    go : (o : Outcome Edge)
+        → ((e : Edge) (rest : List ℕ) → o ≡ some (e, rest) → length rest < length (w ∷ ws))
+        → ((rest : List ℕ) → length rest < length (w ∷ ws) → parseEdges n p f rest ≡ parseEdges n p g rest)
+        → andThen o (λ e rest. prepend e (parseEdges n p f rest)) ≡ andThen o (λ e rest. prepend e (parseEdges n p g rest))
+    go none shorter same = refl
+    go (some x) shorter same = ap (prepend (x .0)) (same (x .1) (shorter (x .0) (x .1) refl))
+
+module _ (n p : ℕ) where
+  pub edges-none : (ws : List ℕ) → 0 < length ws → parseEdge n p ws ≡ none → parseEdges n p (length ws) ws ≡ none
+  edges-none [] h e = absurd (omega arith)
+  edges-none (w ∷ ws) h e = rw e
+
+  pub edges-more : (ws rest : List ℕ) (e : Edge)
+      → 0 < length ws
+      → parseEdge n p ws ≡ some (e, rest)
+      → Leads (parseEdges n p (length rest) rest) (parseEdges n p (length ws) ws)
+  edges-more [] rest e h i = absurd (omega arith)
+  edges-more (w ∷ ws) rest e h i =
+      let s = edge-shorter n p (w ∷ ws) rest e i in
+      let same : parseEdges n p (length ws) rest ≡ parseEdges n p (length rest) rest =
+      enough-fuel n p (length ws) (length rest) rest (omega (arith, s)) (omega arith) in
+      rw (i, same) (leads-prepend e (parseEdges n p (length rest) rest))
+
+  pub edges-end : (row : List ℕ) (at : ℕ) → length row ≤ at → parseEdges n p (length (drop at row)) (drop at row) ≡ some ([], [])
+  edges-end row at h = rw (drop-of-length-le row h)

@@ -8,11 +8,12 @@ use Rattle.automata.specs.Automata as automata
 use Rattle.automata.specs.Rows.{Reads, writeEdges}
 use Rattle.rows.specs.declared.views.Automaton.{Automaton}
 
+-- a view with these parts
 pub record Made (row : List ℕ) (clocks locations edges : ℕ) (v : Automaton) : Type 0 where
-  pub row : now (v .row) ≡ row
-  pub clocks : v .clocks ≡ clocks
-  pub locations : v .locations ≡ locations
-  pub edges : v .edges ≡ edges
+  pub row-is : now (v .row) ≡ row
+  pub clocks-are : v .clocks ≡ clocks
+  pub locations-are : v .locations ≡ locations
+  pub edges-at : v .edges ≡ edges
 
 -- the value is the automaton, read from its row
 pub record Views (v : Automaton) (a : automata.Automaton) : Type 0 where

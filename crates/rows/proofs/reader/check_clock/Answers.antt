@@ -7,14 +7,14 @@ pub returns-then-at-row : need.returns-then-at-row
 returns-then-at-row c = (clock-ends (c .args .clocks) (c .args .row .now) (c .args .at) (c .if-at-row .taken), omega arith)
 
 pub returns-then-row-at : need.returns-then-row-at
-returns-then-row-at c =
-    ( clock-none (c .args .clocks) (c .args .row .now) (c .args .at) (c .if-at-row .left) (c .if-row-at .taken)
-    , omega arith
-    )
+returns-then-row-at c = (
+  clock-none (c .args .clocks) (c .args .row .now) (c .args .at) (c .if-at-row .left) (c .if-row-at .taken),
+  omega arith,
+)
 
 pub returns : need.returns
-returns c =
-    ( omega arith
-    , omega arith
-    , clock-more (c .args .clocks) (c .args .row .now) (c .args .at) (c .if-at-row .left) (c .if-row-at .left)
-    )
+returns c = (
+  omega arith,
+  omega arith,
+  clock-more (c .args .clocks) (c .args .row .now) (c .args .at) (c .if-at-row .left) (c .if-row-at .left),
+)

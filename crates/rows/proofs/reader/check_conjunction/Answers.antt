@@ -16,33 +16,33 @@ returns-then-at-row c =
     (conjunction-ends (c .args .clocks) (c .args .relations) (c .args .row .now) (c .args .at) (c .if-at-row .taken), refl)
 
 pub loop-holds : need.loop-holds
-loop-holds c =
-    ( omega arith
-    , omega arith
-    , rw sub-zero (conjunction-starts (c .args .clocks) (c .args .relations) (c .args .row .now) (c .args .at) (c .if-at-row .left))
-    )
+loop-holds c = (
+  omega arith,
+  omega arith,
+  rw sub-zero (conjunction-starts (c .args .clocks) (c .args .relations) (c .args .row .now) (c .args .at) (c .if-at-row .left)),
+)
 
 pub returns-in-Break-next : need.returns-in-Break-next
 returns-in-Break-next c =
     let p = err-from-errBy (c .from-residual .result) (c .from-residual .ensures .1) in
     let e = c .in-Break-next .ensures tt in
     rw
-    (p .1, p .2)
-    ( none-more (parseConstraints (c .args .clocks) (c .args .relations)) _ (c .loop .counter) (drop (c .loop .next) (c .args .row .now)) (c .loop .inv .2) (c .loop-test .taken) (e .0)
-    , e .1
+    (p .1, p .2) (
+      none-more (parseConstraints (c .args .clocks) (c .args .relations)) _ (c .loop .counter) (drop (c .loop .next) (c .args .row .now)) (c .loop .inv .2) (c .loop-test .taken) (e .0),
+      e .1,
     )
 
 pub loop-again : need.loop-again
 loop-again c =
-    let e = c .in-Continue-next .ensures tt in
-    ( omega (arith, e .0, c .loop .inv .0)
-    , e .1
-    , one-more (parseConstraints (c .args .clocks) (c .args .relations)) _ (c .loop .counter) (drop (c .loop .next) (c .args .row .now)) (c .loop .inv .2) (drop (c .in-Continue-next .next) (c .args .row .now)) (c .loop-test .taken) (e .2)
+    let e = c .in-Continue-next .ensures tt in (
+      omega (arith, e .0, c .loop .inv .0),
+      e .1,
+      one-more (parseConstraints (c .args .clocks) (c .args .relations)) _ (c .loop .counter) (drop (c .loop .next) (c .args .row .now)) (c .loop .inv .2) (drop (c .in-Continue-next .next) (c .args .row .now)) (c .loop-test .taken) (e .2),
     )
 
 pub returns : need.returns
-returns c =
-    ( c .loop .inv .0
-    , c .loop .inv .1
-    , no-more (parseConstraints (c .args .clocks) (c .args .relations)) _ (c .loop .counter) (drop (c .loop .next) (c .args .row .now)) (c .loop .inv .2) [] (c .loop-test .left) refl
-    )
+returns c = (
+  c .loop .inv .0,
+  c .loop .inv .1,
+  no-more (parseConstraints (c .args .clocks) (c .args .relations)) _ (c .loop .counter) (drop (c .loop .next) (c .args .row .now)) (c .loop .inv .2) [] (c .loop-test .left) refl,
+)

@@ -10,5 +10,5 @@ Inv-loop l =
     (l .at < l .next)
     × (l .next ≤ length (l .row))
     × Leads
-      (parseConstraints (l .clocks) (l .relations) (l .end - l .counter) (drop (l .next) (l .row)))
-      (parseConjunction (l .clocks) (l .relations) (drop (l .at) (l .row)))
+    (parseConstraints (l .clocks) (l .relations) (l .end - l .counter) (drop (l .next) (l .row)))
+    (parseConjunction (l .clocks) (l .relations) (drop (l .at) (l .row)))

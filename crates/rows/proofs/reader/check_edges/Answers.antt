@@ -17,17 +17,17 @@ returns-in-Break-next c =
     let e = c .in-Break-next .ensures tt in
     let some-left : 0 < length (drop (c .loop-next .next) (c .args .row .now)) = simp length-drop (omega arith) in
     rw
-    (p .1, p .2)
-    ( c .loop-next .inv .1 .fails (edges-none (c .args .clocks) (c .args .locations) (drop (c .loop-next .next) (c .args .row .now)) some-left (e .0))
-    , e .1
+    (p .1, p .2) (
+      c .loop-next .inv .1 .fails (edges-none (c .args .clocks) (c .args .locations) (drop (c .loop-next .next) (c .args .row .now)) some-left (e .0)),
+      e .1,
     )
 
 pub loop-next-again : need.loop-next-again
 loop-next-again c =
     let e = c .in-Continue-next .ensures tt in
-    let some-left : 0 < length (drop (c .loop-next .next) (c .args .row .now)) = simp length-drop (omega arith) in
-    ( e .1
-    , leads-trans (edges-more (c .args .clocks) (c .args .locations) (drop (c .loop-next .next) (c .args .row .now)) (drop (c .in-Continue-next .next) (c .args .row .now)) (e .2 .0) some-left (e .2 .1)) (c .loop-next .inv .1)
+    let some-left : 0 < length (drop (c .loop-next .next) (c .args .row .now)) = simp length-drop (omega arith) in (
+      e .1,
+      leads-trans (edges-more (c .args .clocks) (c .args .locations) (drop (c .loop-next .next) (c .args .row .now)) (drop (c .in-Continue-next .next) (c .args .row .now)) (e .2 .0) some-left (e .2 .1)) (c .loop-next .inv .1),
     )
 
 pub returns : need.returns

@@ -9,8 +9,8 @@ abbrev pub Inv-loop-next : given.InvT-loop-next
 Inv-loop-next l =
     (l .next ≤ length (l .row))
     × Leads
-      (parseEdges (l .clocks) (l .locations) (length (drop (l .next) (l .row))) (drop (l .next) (l .row)))
-      (parseEdges (l .clocks) (l .locations) (length (drop (l .at) (l .row))) (drop (l .at) (l .row)))
+    (parseEdges (l .clocks) (l .locations) (length (drop (l .next) (l .row))) (drop (l .next) (l .row)))
+    (parseEdges (l .clocks) (l .locations) (length (drop (l .at) (l .row))) (drop (l .at) (l .row)))
 
 abbrev pub μ-loop-next : given.MeasureT-loop-next
 μ-loop-next l = length (l .entry .row) - l .next

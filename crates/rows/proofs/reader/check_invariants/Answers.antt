@@ -18,22 +18,22 @@ returns-in-Break-next c =
     let p = err-from-errBy (c .from-residual .result) (c .from-residual .ensures .1) in
     let e = c .in-Break-next .ensures tt in
     rw
-    (p .1, p .2)
-    ( none-more (parseInvariants (c .args .clocks)) (c .args .locations) (c .loop .counter) (drop (c .loop .next) (c .args .row .now)) (c .loop .inv .2) (c .loop-test .taken) (invariant-none (c .args .clocks) (drop (c .loop .next) (c .args .row .now)) (e .0))
-    , e .1
+    (p .1, p .2) (
+      none-more (parseInvariants (c .args .clocks)) (c .args .locations) (c .loop .counter) (drop (c .loop .next) (c .args .row .now)) (c .loop .inv .2) (c .loop-test .taken) (invariant-none (c .args .clocks) (drop (c .loop .next) (c .args .row .now)) (e .0)),
+      e .1,
     )
 
 pub loop-again : need.loop-again
 loop-again c =
-    let e = c .in-Continue-next .ensures tt in
-    ( omega (arith, e .0, c .loop .inv .0)
-    , e .1
-    , one-more (parseInvariants (c .args .clocks)) (c .args .locations) (c .loop .counter) (drop (c .loop .next) (c .args .row .now)) (c .loop .inv .2) (drop (c .in-Continue-next .next) (c .args .row .now)) (c .loop-test .taken) (invariant-more (c .args .clocks) (drop (c .loop .next) (c .args .row .now)) (drop (c .in-Continue-next .next) (c .args .row .now)) (e .2 .0) (e .2 .1))
+    let e = c .in-Continue-next .ensures tt in (
+      omega (arith, e .0, c .loop .inv .0),
+      e .1,
+      one-more (parseInvariants (c .args .clocks)) (c .args .locations) (c .loop .counter) (drop (c .loop .next) (c .args .row .now)) (c .loop .inv .2) (drop (c .in-Continue-next .next) (c .args .row .now)) (c .loop-test .taken) (invariant-more (c .args .clocks) (drop (c .loop .next) (c .args .row .now)) (drop (c .in-Continue-next .next) (c .args .row .now)) (e .2 .0) (e .2 .1)),
     )
 
 pub returns : need.returns
-returns c =
-    ( omega (arith, c .loop .inv .0, c .loop-test .left, c .pre)
-    , c .loop .inv .1
-    , no-more (parseInvariants (c .args .clocks)) (c .args .locations) (c .loop .counter) (drop (c .loop .next) (c .args .row .now)) (c .loop .inv .2) [] (c .loop-test .left) refl
-    )
+returns c = (
+  omega (arith, c .loop .inv .0, c .loop-test .left, c .pre),
+  c .loop .inv .1,
+  no-more (parseInvariants (c .args .clocks)) (c .args .locations) (c .loop .counter) (drop (c .loop .next) (c .args .row .now)) (c .loop .inv .2) [] (c .loop-test .left) refl,
+)

@@ -10,5 +10,5 @@ Inv-loop l =
     (2 + l .counter ≤ l .next)
     × (l .next ≤ length (l .row))
     × Leads
-      (parseInvariants (l .clocks) (l .locations - l .counter) (drop (l .next) (l .row)))
-      (parseInvariants (l .clocks) (l .locations) (drop 2 (l .row)))
+    (parseInvariants (l .clocks) (l .locations - l .counter) (drop (l .next) (l .row)))
+    (parseInvariants (l .clocks) (l .locations) (drop 2 (l .row)))

@@ -10,5 +10,5 @@ Inv-loop l =
     (l .at < l .next)
     × (l .next ≤ length (l .row))
     × Leads
-      (parseClocks (l .clocks) (l .end - l .counter) (drop (l .next) (l .row)))
-      (parseResets (l .clocks) (drop (l .at) (l .row)))
+    (parseClocks (l .clocks) (l .end - l .counter) (drop (l .next) (l .row)))
+    (parseResets (l .clocks) (drop (l .at) (l .row)))
