@@ -12,6 +12,7 @@ use Rattle.automata.specs.Automata.{Relation, at-most, below, at-least, above, 
 use Rattle.automata.specs.Rows.{code, upper, writeConstraints, writeInvariants, writeEdges, write, fineConstraint, fineGuard, fineInvariant, fineInvariants, fineResets, fineEdge, fineEdges, fine, Reads}
 use Rattle.automata.specs.Statements.{One-automaton}
 use Rattle.rows.specs.Parse.{Outcome, prepend, andThen, relationOf, upperOnly, allRelations, fits, constraint, parseConstraints, parseConjunction, parseInvariants, parseClocks, parseResets, parseEdge, parseEdges, parse}
+use Rattle.rows.specs.Parts.{edgeWords}
 use Rattle.rows.specs.Statements.{Rows-round}
 
 -- tests joined by `&&`
@@ -32,7 +33,7 @@ to-T true e = tt
 to-T false e = let z : _≡_ {A = ℕ} 0 1 = cc in absurd (omega arith)
 
 -- relations and their codes
-relationOf-code : (r : Relation) → relationOf (code r) ≡ r
+pub relationOf-code : (r : Relation) → relationOf (code r) ≡ r
 relationOf-code at-most = refl
 relationOf-code below = refl
 relationOf-code at-least = refl
@@ -146,14 +147,6 @@ read-invariants n rest (cs ∷ css) e =
 read-clocks : (n : ℕ) (rest xs : List ℕ) → fineResets n xs ≡ true → parseClocks n (length xs) (xs ++ rest) ≡ some (xs, rest)
 read-clocks n rest [] e = refl
 read-clocks n rest (x ∷ xs) e = let s = both (ltb x n) (fineResets n xs) e in rw (s .0, read-clocks n rest xs (s .1))
-
--- the words of an edge
-abbrev pub edgeWords : Edge → List ℕ → List ℕ
-edgeWords e rest =
-    e .source
-    ∷ e .target
-    ∷ length (e .guard)
-    ∷ (writeConstraints (e .guard) ++ (length (e .resets) ∷ (e .resets ++ rest)))
 
 fineEdge-parts : (n p : ℕ) (e : Edge)
     → fineEdge n p e ≡ true

@@ -14,7 +14,8 @@ use Rattle.automata.specs.Automata.{Constraint, Edge}
 use Rattle.rows.specs.Parse.{Outcome, prepend, andThen, upperOnly, allRelations, fits, constraint, parseConstraints, parseConjunction, parseInvariants, parseClocks, parseResets, parseEdge, parseEdges}
 use Rattle.rows.specs.Reading.{Leads}
 use Rattle.automata.specs.Rows.{fineEdge}
-use Rattle.rows.proofs.Round.{edgeWords, Written, written-edge}
+use Rattle.rows.specs.Parts.{edgeWords}
+use Rattle.rows.proofs.Round.{Written, written-edge}
 
 -- the words from a place on
 pub drop-one : (row : List ℕ) (at : ℕ) → at < length row → drop at row ≡ getD row at 0 ∷ drop (at + 1) row
