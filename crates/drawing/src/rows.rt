@@ -14,6 +14,7 @@ use crate::parts::Test;
 use std::alloc::AllocError;
 use std::alloc::Global;
 use std::alloc::Refused;
+use std::fmt;
 
 pub const MOST_CLOCKS: u32 = 8;
 
@@ -34,6 +35,21 @@ pub enum Unfit {
     Bound,
     Lower,
     Words,
+}
+
+pub impl fmt::Display for Unfit as UnfitDisplay {
+    fn fmt<W: fmt::Write>(&self, f: &mut fmt::Formatter<W>) -> fmt::Result {
+        f.write_str(match self {
+            Unfit::Memory => "not enough memory",
+            Unfit::Clocks => "no clock, or more than 8 clocks",
+            Unfit::Positions => "no position, or more than 256 positions",
+            Unfit::Clock => "a clock that is not there",
+            Unfit::Position => "a position that is not there",
+            Unfit::Bound => "a number above 10000 in a test",
+            Unfit::Lower => "a position that bounds a clock from below",
+            Unfit::Words => "more than 16384 numbers",
+        })
+    }
 }
 
 pub impl From<AllocError> for Unfit as UnfitFromAlloc {
