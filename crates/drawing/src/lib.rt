@@ -3,5 +3,6 @@ pub mod cursor;
 pub mod errors;
 pub mod names;
 pub mod parts;
+pub mod reader;
 pub mod rows;
 pub mod words;
