@@ -2,6 +2,8 @@
 ghost use lib.ListN.{length};
 ghost use Rattle.std.specs.Of.Vec.{vec-items, vec-len};
 ghost use Rattle.std.specs.Vec.{made};
+ghost use Rattle.automata.specs.Automata.{Automaton};
+ghost use Rattle.automata.specs.Rows.{Reads};
 ghost use Rattle.drawing.specs.Drawn.{Draws};
 use crate::errors::Expected;
 use crate::errors::Found;
@@ -11,14 +13,17 @@ use crate::names::Names;
 use crate::parts::Clockwork;
 use crate::rows::Unfit;
 use std::alloc::Global;
+use crate::rows::UnfitFromFmt;
 
-pub mod cursor;
+mod cursor;
 pub mod errors;
-pub mod names;
+mod names;
 pub mod parts;
-pub mod reader;
+mod reader;
 pub mod rows;
-pub mod words;
+mod sheet;
+mod split;
+mod words;
 
 // A clockwork's row, with the names of its clocks and positions in the order of their numbers.
 #[derive(Debug, Drop)]
@@ -81,4 +86,16 @@ pub fn read(heap: Global, bytes: &[u8]) -> Result<Drawing, Refusal>
     let names = names::declare_all(heap, lines.as_slice())?;
     let clockwork = reader::read_lines(heap, &names, lines.as_slice())?;
     finish(heap, place_after(bytes, bytes.len()), names, &clockwork)
+}
+
+// Draws a row: refuses one that is not the writing of an automaton. Tests show, and no proof, that to read the text gives the row again.
+pub fn draw(heap: Global, row: &[u32]) -> Result<String, Unfit>
+    ensures { λ r. ⌜ made r (λ _. (a : Automaton) × Reads (now (row .entry)) a) ⌝ }
+{
+    let clockwork = split::split_row(heap, row)?;
+    let again = rows::write_row(heap, &clockwork)?;
+    if again.as_slice() != row {
+        return Err(Unfit::Other);
+    }
+    Ok(sheet::write_sheet(heap, &clockwork)?)
 }

@@ -24,7 +24,7 @@ pub const MOST_BOUND: u32 = 10_000;
 
 pub const MOST_WORDS: usize = 16_384;
 
-// Why a clockwork has no row.
+// Why a clockwork has no row, or a row is no clockwork's.
 #[derive(Clone, Copy, Debug, PartialEq)]
 pub enum Unfit {
     Memory,
@@ -35,6 +35,9 @@ pub enum Unfit {
     Bound,
     Lower,
     Words,
+    Short,
+    Relation,
+    Other,
 }
 
 pub impl fmt::Display for Unfit as UnfitDisplay {
@@ -48,6 +51,9 @@ pub impl fmt::Display for Unfit as UnfitDisplay {
             Unfit::Bound => "a number above 10000 in a test",
             Unfit::Lower => "a position that bounds a clock from below",
             Unfit::Words => "more than 16384 numbers",
+            Unfit::Short => "a row that ends too early",
+            Unfit::Relation => "a relation above 3",
+            Unfit::Other => "a row that no clockwork has",
         })
     }
 }
@@ -60,6 +66,13 @@ pub impl From<AllocError> for Unfit as UnfitFromAlloc {
 
 pub impl<T: Drop> From<Refused<T>> for Unfit as UnfitFromRefused {
     fn from(_e: Refused<T>) -> Unfit {
+        Unfit::Memory
+    }
+}
+
+// Only want of memory keeps a text from being written.
+pub impl From<fmt::Error> for Unfit as UnfitFromFmt {
+    fn from(_e: fmt::Error) -> Unfit {
         Unfit::Memory
     }
 }
