@@ -10,13 +10,13 @@ use Rattle.automata.specs.Rows.{Reads}
 -- one clock; in location 0 it is at most 3; to location 1 where it is above 2, and the clock is set back
 abbrev pub bell : Automaton
 bell =
-    record
-      { clocks = 1
-      ; invariants = (record { clock = 0; relation = at-most; bound = 3 } ∷ []) ∷ [] ∷ []
-      ; edges =
-        record { source = 0; target = 1; guard = record { clock = 0; relation = above; bound = 2 } ∷ []; resets = 0 ∷ [] }
-        ∷ []
-      }
+    record {
+      clocks = 1;
+      invariants = (record { clock = 0; relation = at-most; bound = 3 } ∷ []) ∷ [] ∷ [];
+      edges =
+          record { source = 0; target = 1; guard = record { clock = 0; relation = above; bound = 2 } ∷ []; resets = 0 ∷ [] }
+          ∷ [];
+    }
 
 abbrev pub two-and-a-half : Time
 two-and-a-half = record { numerator = 5; denominator-1 = 1 }

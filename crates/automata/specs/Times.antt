@@ -15,10 +15,10 @@ zero-time = record { numerator = 0; denominator-1 = 0 }
 
 abbrev pub add : Time → Time → Time
 add a b =
-    record
-      { numerator = a .numerator * denominator b + b .numerator * denominator a
-      ; denominator-1 = a .denominator-1 * b .denominator-1 + (a .denominator-1 + b .denominator-1)
-      }
+    record {
+      numerator = a .numerator * denominator b + b .numerator * denominator a;
+      denominator-1 = a .denominator-1 * b .denominator-1 + (a .denominator-1 + b .denominator-1);
+    }
 
 -- a time against a whole number
 abbrev pub AtMost : Time → ℕ → Type 0

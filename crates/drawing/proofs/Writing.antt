@@ -53,18 +53,18 @@ pub record Sofar {X : Type 0} (W : List X → List ℕ) (F : List X → Bool) (s
 module _ {X : Type 0} {w : X → List ℕ} {W : List X → List ℕ} {f : X → Bool} {F : List X → Bool} (walk : Walk w W f F) where
   pub sofar-none : (row : List ℕ) (xs : List X) → Sofar W F row xs 0 row
   sofar-none row xs =
-      record
-        { written = record { longer = sym (append-nil row) ∙ sym (ap (λ (l : List ℕ). row ++ l) (walk .no-words)) }
-        ; fits = walk .none-fits
-        }
+      record {
+        written = record { longer = sym (append-nil row) ∙ sym (ap (λ (l : List ℕ). row ++ l) (walk .no-words)) };
+        fits = walk .none-fits;
+      }
 
   pub sofar-more : (start : List ℕ) (xs : List X) (i : ℕ) (row next : List ℕ) (x d : X) → i < length xs → x ≡ getD xs i d → Sofar W F start xs i row → Adds row (w x) next → f x ≡ true → Sofar W F start xs (i + 1) next
   sofar-more start xs i row next x d lt is h adds fit =
       let e : take (i + 1) xs ≡ take i xs ++ x ∷ [] = take-more xs i d lt ∙ ap (λ (y : X). take i xs ++ y ∷ []) (sym is) in
-      record
-        { written = adds-same (sym (words-push walk (take i xs) x) ∙ ap W (sym e)) (adds-more (h .written) adds)
-        ; fits = ap F e ∙ fits-push walk (take i xs) x (h .fits) fit
-        }
+      record {
+        written = adds-same (sym (words-push walk (take i xs) x) ∙ ap W (sym e)) (adds-more (h .written) adds);
+        fits = ap F e ∙ fits-push walk (take i xs) x (h .fits) fit;
+      }
 
   pub sofar-all : (start : List ℕ) (xs : List X) (i : ℕ) (row : List ℕ) → length xs ≤ i → Sofar W F start xs i row → Adds start (W xs) row × (F xs ≡ true)
   sofar-all start xs i row le h =
@@ -87,12 +87,12 @@ positions-walk n = record { no-words = refl; more-words = λ _ _. refl; none-fit
 
 pub steps-walk : (n p : ℕ) → Walk stepWords stepsWords (λ s. fineEdge n p (edge s)) (λ ss. fineEdges n p (map edge ss))
 steps-walk n p =
-    record
-      { no-words = refl
-      ; more-words = λ s ss. ap (λ (l : List ℕ). s .source ∷ s .target ∷ length (constraints (vec-items (s .tests))) ∷ l) (sym (append-assoc (writeConstraints (constraints (vec-items (s .tests)))) (resetsWords (vec-items (s .resets))) (stepsWords ss)))
-      ; none-fits = refl
-      ; more-fit = λ _ _. refl
-      }
+    record {
+      no-words = refl;
+      more-words = λ s ss. ap (λ (l : List ℕ). s .source ∷ s .target ∷ length (constraints (vec-items (s .tests))) ∷ l) (sym (append-assoc (writeConstraints (constraints (vec-items (s .tests)))) (resetsWords (vec-items (s .resets))) (stepsWords ss)));
+      none-fits = refl;
+      more-fit = λ _ _. refl;
+    }
 
 -- tests that fit, and bound their clocks from above, fit a position
 pub fine-invariant : (n : ℕ) (ts : List Test) → fineGuard n (constraints ts) ≡ true → allUpper ts ≡ true → fineInvariant n (constraints ts) ≡ true
@@ -110,18 +110,16 @@ pub upper-all : (ts : List Test) (i : ℕ) → length ts ≤ i → allUpper (tak
 upper-all ts i le p = sym (ap allUpper (take-all i ts le)) ∙ p
 
 pub position-written : {row next : List ℕ} (n : ℕ) (p : Position) (ts : List Test) → ts ≡ vec-items (p .tests) → allUpper ts ≡ true → Adds row (testsWords ts) next → FineTests n ts → Adds row (positionWords p) next × FinePosition n p
-position-written n p ts e up words fit =
-    (
-      adds-same (ap testsWords e) words,
-      ap (λ (l : List Test). fineInvariant n (constraints l)) (sym e) ∙ fine-invariant n ts fit up,
-    )
+position-written n p ts e up words fit = (
+  adds-same (ap testsWords e) words,
+  ap (λ (l : List Test). fineInvariant n (constraints l)) (sym e) ∙ fine-invariant n ts fit up,
+)
 
 pub step-written : {r₀ r₁ r₂ r₃ r₄ : List ℕ} (n p : ℕ) (s : Step) (ts : List Test) (rs : List ℕ) → ts ≡ vec-items (s .tests) → rs ≡ vec-items (s .resets) → s .source < p → s .target < p → Adds r₀ (s .source ∷ []) r₁ → Adds r₁ (s .target ∷ []) r₂ → Adds r₂ (testsWords ts) r₃ × FineTests n ts → Adds r₃ (resetsWords rs) r₄ × FineResets n rs → Adds r₀ (stepWords s) r₄ × FineStep n p s
-step-written n p s ts rs et er from to h₁ h₂ h₃ h₄ =
-    (
-      adds-more (adds-more h₁ h₂) (adds-more (adds-same (ap testsWords et) (h₃ .0)) (adds-same (ap resetsWords er) (h₄ .0))),
-      and-from _ _ (and-from _ _ (lt-ltb _ _ from) (lt-ltb _ _ to)) (and-from _ _ (ap (λ (l : List Test). fineGuard n (constraints l)) (sym et) ∙ h₃ .1) (ap (fineResets n) (sym er) ∙ h₄ .1)),
-    )
+step-written n p s ts rs et er from to h₁ h₂ h₃ h₄ = (
+  adds-more (adds-more h₁ h₂) (adds-more (adds-same (ap testsWords et) (h₃ .0)) (adds-same (ap resetsWords er) (h₄ .0))),
+  and-from _ _ (and-from _ _ (lt-ltb _ _ from) (lt-ltb _ _ to)) (and-from _ _ (ap (λ (l : List Test). fineGuard n (constraints l)) (sym et) ∙ h₃ .1) (ap (fineResets n) (sym er) ∙ h₄ .1)),
+)
 
 holds : {b : Bool} → b ≡ true → T b
 holds e = subst T (sym e) tt
@@ -132,8 +130,8 @@ row-reads c p ps ss none eps ess ep clocks positions h₁ h₂ h₃ h₄ short =
     let n = c .clocks in
     let is : p ≡ length (automaton c .invariants) = ep ∙ sym (length-map (vec-items (c .positions)) invariantOf) in
     let all = adds-more (adds-more h₁ (adds-same (ap (λ (k : ℕ). k ∷ []) is) h₂)) (adds-more (adds-same (ap positionsWords eps) (h₃ .0)) (adds-same (ap stepsWords ess) (h₄ .0))) in
-    record
-      { written = sym (all .longer ∙ ap (λ (l : List ℕ). l ++ write (automaton c)) none)
-      ; sound = holds (and-from _ _ (and-from _ _ (le-leb 1 n (clocks .0)) (le-leb n 8 (clocks .1))) (and-from _ _ (ap (λ (k : ℕ). leb 1 k && leb k 256) (sym is) ∙ and-from _ _ (le-leb 1 p (positions .0)) (le-leb p 256 (positions .1))) (and-from _ _ (ap (λ (l : List Position). fineInvariants n (map invariantOf l)) (sym eps) ∙ h₃ .1) (ap (λ (k : ℕ). fineEdges n k (map edge (vec-items (c .steps)))) (sym is) ∙ (ap (λ (l : List Step). fineEdges n p (map edge l)) (sym ess) ∙ h₄ .1)))))
-      ; short = short
-      }
+    record {
+      written = sym (all .longer ∙ ap (λ (l : List ℕ). l ++ write (automaton c)) none);
+      sound = holds (and-from _ _ (and-from _ _ (le-leb 1 n (clocks .0)) (le-leb n 8 (clocks .1))) (and-from _ _ (ap (λ (k : ℕ). leb 1 k && leb k 256) (sym is) ∙ and-from _ _ (le-leb 1 p (positions .0)) (le-leb p 256 (positions .1))) (and-from _ _ (ap (λ (l : List Position). fineInvariants n (map invariantOf l)) (sym eps) ∙ h₃ .1) (ap (λ (k : ℕ). fineEdges n k (map edge (vec-items (c .steps)))) (sym is) ∙ (ap (λ (l : List Step). fineEdges n p (map edge l)) (sym ess) ∙ h₄ .1)))));
+      short = short;
+    }

@@ -32,20 +32,20 @@ invariantOf p = constraints (vec-items (p .tests))
 
 abbrev pub edge : Step → Edge
 edge s =
-    record
-      { source = s .source
-      ; target = s .target
-      ; guard = constraints (vec-items (s .tests))
-      ; resets = vec-items (s .resets)
-      }
+    record {
+      source = s .source;
+      target = s .target;
+      guard = constraints (vec-items (s .tests));
+      resets = vec-items (s .resets);
+    }
 
 abbrev pub automaton : Clockwork → Automaton
 automaton c =
-    record
-      { clocks = c .clocks
-      ; invariants = map invariantOf (vec-items (c .positions))
-      ; edges = map edge (vec-items (c .steps))
-      }
+    record {
+      clocks = c .clocks;
+      invariants = map invariantOf (vec-items (c .positions));
+      edges = map edge (vec-items (c .steps));
+    }
 
 -- ys is xs with the words ws after it
 pub record Adds (xs ws ys : List ℕ) : Type 0 where

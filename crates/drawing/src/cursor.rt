@@ -24,14 +24,24 @@ impl<'a> Cursor<'a> {
     // The next word, if it is a name or a number.
     pub fn text(&self) -> Option<&'a str> {
         match self.line.tokens.get(self.at) {
-            Some(Token { word: Word::Text(text), column: _ }) => Some(text.as_str()),
+            Some(
+                Token {
+                    word: Word::Text(text),
+                    column: _,
+                },
+            ) => Some(text.as_str()),
             _ => None,
         }
     }
 
     pub fn sign(&self) -> Option<Sign> {
         match self.line.tokens.get(self.at) {
-            Some(Token { word: Word::Sign(sign), column: _ }) => Some(*sign),
+            Some(
+                Token {
+                    word: Word::Sign(sign),
+                    column: _,
+                },
+            ) => Some(*sign),
             _ => None,
         }
     }
@@ -68,7 +78,11 @@ impl<'a> Cursor<'a> {
         let Some(token) = self.line.tokens.get(self.at) else {
             let column = self.line.end;
             let found = Found::LineEnd;
-            return Refusal::Wrong { place: Place { line, column }, found, expected };
+            return Refusal::Wrong {
+                place: Place { line, column },
+                found,
+                expected,
+            };
         };
         let column = token.column;
         let found = match &token.word {
@@ -78,10 +92,18 @@ impl<'a> Cursor<'a> {
                 Err(_) => return Refusal::Memory,
             },
         };
-        Refusal::Wrong { place: Place { line, column }, found, expected }
+        Refusal::Wrong {
+            place: Place { line, column },
+            found,
+            expected,
+        }
     }
 
     pub fn expect_end(&self, heap: Global, expected: Expected) -> Result<(), Refusal> {
-        if self.at_end() { Ok(()) } else { Err(self.refuse(heap, expected)) }
+        if self.at_end() {
+            Ok(())
+        } else {
+            Err(self.refuse(heap, expected))
+        }
     }
 }

@@ -1,10 +1,10 @@
 // Why a text is no drawing: where, what was found there, and what was expected.
 use crate::rows::Unfit;
+use crate::rows::UnfitDebug;
+use crate::rows::UnfitDisplay;
 use std::alloc::AllocError;
 use std::alloc::Refused;
 use std::fmt;
-use crate::rows::UnfitDebug;
-use crate::rows::UnfitDisplay;
 
 // Lines and columns count from 1, columns in characters.
 #[derive(Clone, Copy, Debug, PartialEq)]
@@ -87,16 +87,18 @@ pub impl<T: Drop> From<Refused<T>> for Refusal as RefusalFromRefused {
 
 pub impl fmt::Display for Sign as SignDisplay {
     fn fmt<W: fmt::Write>(&self, f: &mut fmt::Formatter<W>) -> fmt::Result {
-        f.write_str(match self {
-            Sign::Colon => ":",
-            Sign::Comma => ",",
-            Sign::Arrow => "->",
-            Sign::AtMost => "<=",
-            Sign::Below => "<",
-            Sign::AtLeast => ">=",
-            Sign::Above => ">",
-            Sign::Equal => "=",
-        })
+        f.write_str(
+            match self {
+                Sign::Colon => ":",
+                Sign::Comma => ",",
+                Sign::Arrow => "->",
+                Sign::AtMost => "<=",
+                Sign::Below => "<",
+                Sign::AtLeast => ">=",
+                Sign::Above => ">",
+                Sign::Equal => "=",
+            },
+        )
     }
 }
 
@@ -129,7 +131,9 @@ pub impl fmt::Display for Expected as ExpectedDisplay {
             Expected::KnownClock => f.write_str("a clock that a line `clocks` names"),
             Expected::KnownPosition => f.write_str("a position that a line `position` names"),
             Expected::Relation => f.write_str("`<=`, `<`, `>=`, `>` or `=`"),
-            Expected::UpperRelation => f.write_str("`<=` or `<`, since a position bounds clocks only from above"),
+            Expected::UpperRelation => f.write_str(
+                "`<=` or `<`, since a position bounds clocks only from above",
+            ),
             Expected::Bound => f.write_str("a whole number from 0 to 10000"),
             Expected::Arrow => f.write_str("`->`"),
             Expected::AfterPosition => f.write_str("`:` or the end of the line"),
@@ -148,7 +152,11 @@ pub impl fmt::Display for Refusal as RefusalDisplay {
     fn fmt<W: fmt::Write>(&self, f: &mut fmt::Formatter<W>) -> fmt::Result {
         match self {
             Refusal::Memory => f.write_str("not enough memory"),
-            Refusal::Wrong { place, found, expected } => {
+            Refusal::Wrong {
+                place,
+                found,
+                expected,
+            } => {
                 let line = place.line;
                 let column = place.column;
                 write!(f, "{line}:{column}: found {found}, expected {expected}")

@@ -12,8 +12,8 @@ use crate::errors::Refusal;
 use crate::names::Names;
 use crate::parts::Clockwork;
 use crate::rows::Unfit;
-use std::alloc::Global;
 use crate::rows::UnfitFromFmt;
+use std::alloc::Global;
 
 mod cursor;
 pub mod errors;
@@ -23,6 +23,8 @@ mod reader;
 pub mod rows;
 mod sheet;
 mod split;
+#[cfg(test)]
+mod tests;
 mod words;
 
 // A clockwork's row, with the names of its clocks and positions in the order of their numbers.
@@ -64,17 +66,37 @@ fn finish(heap: Global, end: Place, names: Names, clockwork: &Clockwork) -> Resu
     ensures { λ r. ⌜ made r (λ d. Draws (vec-items (d .row)) (vec-len (d .clocks)) (vec-len (d .positions))) ⌝ }
 {
     let Names { clocks, positions } = names;
-    let expected = if clocks.is_empty() { Expected::Clocks } else { Expected::Positions };
+    let expected = if clocks.is_empty() {
+        Expected::Clocks
+    } else {
+        Expected::Positions
+    };
     if clocks.len() != clockwork.clocks as usize || positions.len() != clockwork.positions.len() {
-        return Err(Refusal::Wrong { place: end, found: Found::TextEnd, expected });
+        return Err(Refusal::Wrong {
+            place: end,
+            found: Found::TextEnd,
+            expected,
+        });
     }
     if clocks.is_empty() || positions.is_empty() {
-        return Err(Refusal::Wrong { place: end, found: Found::TextEnd, expected });
+        return Err(Refusal::Wrong {
+            place: end,
+            found: Found::TextEnd,
+            expected,
+        });
     }
     match rows::write_row(heap, clockwork) {
-        Ok(row) => Ok(Drawing { row, clocks, positions }),
+        Ok(row) => Ok(Drawing {
+            row,
+            clocks,
+            positions,
+        }),
         Err(Unfit::Memory) => Err(Refusal::Memory),
-        Err(unfit) => Err(Refusal::Wrong { place: end, found: Found::Unfit(unfit), expected: Expected::Row }),
+        Err(unfit) => Err(Refusal::Wrong {
+            place: end,
+            found: Found::Unfit(unfit),
+            expected: Expected::Row,
+        }),
     }
 }
 

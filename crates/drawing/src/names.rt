@@ -2,13 +2,13 @@
 use crate::cursor::Cursor;
 use crate::errors::Expected;
 use crate::errors::Refusal;
+use crate::errors::RefusalFromAlloc;
+use crate::errors::RefusalFromRefused;
 use crate::errors::Sign;
 use crate::rows::MOST_CLOCKS;
 use crate::rows::MOST_POSITIONS;
 use crate::words::Line;
 use std::alloc::Global;
-use crate::errors::RefusalFromAlloc;
-use crate::errors::RefusalFromRefused;
 
 #[derive(Debug, Drop)]
 pub struct Names {
@@ -42,7 +42,13 @@ pub fn find(names: &[String], name: &str) -> Option<u32> {
 }
 
 // Takes the next word as a new name.
-fn declare(heap: Global, names: &mut Vec<String>, cursor: &mut Cursor, asked: Expected, fresh: Expected) -> Result<(), Refusal> {
+fn declare(
+    heap: Global,
+    names: &mut Vec<String>,
+    cursor: &mut Cursor,
+    asked: Expected,
+    fresh: Expected,
+) -> Result<(), Refusal> {
     let Some(text) = cursor.text() else {
         return Err(cursor.refuse(heap, asked));
     };
@@ -58,12 +64,22 @@ fn declare(heap: Global, names: &mut Vec<String>, cursor: &mut Cursor, asked: Ex
 }
 
 // The names after `clocks`: blanks part them, and a comma may.
-fn declare_clocks(heap: Global, clocks: &mut Vec<String>, cursor: &mut Cursor) -> Result<(), Refusal> {
+fn declare_clocks(
+    heap: Global,
+    clocks: &mut Vec<String>,
+    cursor: &mut Cursor,
+) -> Result<(), Refusal> {
     for _ in 0..=cursor.line.tokens.len() {
         if clocks.len() >= MOST_CLOCKS as usize {
             return Err(cursor.refuse(heap, Expected::FewClocks));
         }
-        declare(heap, clocks, cursor, Expected::ClockName, Expected::NewClock)?;
+        declare(
+            heap,
+            clocks,
+            cursor,
+            Expected::ClockName,
+            Expected::NewClock,
+        )?;
         if !cursor.take_sign(Sign::Comma) && cursor.at_end() {
             break;
         }
@@ -71,11 +87,21 @@ fn declare_clocks(heap: Global, clocks: &mut Vec<String>, cursor: &mut Cursor) -
     Ok(())
 }
 
-fn declare_position(heap: Global, positions: &mut Vec<String>, cursor: &mut Cursor) -> Result<(), Refusal> {
+fn declare_position(
+    heap: Global,
+    positions: &mut Vec<String>,
+    cursor: &mut Cursor,
+) -> Result<(), Refusal> {
     if positions.len() >= MOST_POSITIONS {
         return Err(cursor.refuse(heap, Expected::FewPositions));
     }
-    declare(heap, positions, cursor, Expected::PositionName, Expected::NewPosition)
+    declare(
+        heap,
+        positions,
+        cursor,
+        Expected::PositionName,
+        Expected::NewPosition,
+    )
 }
 
 // All names of the text, so that a step may go to a position that is named below it.

@@ -2,6 +2,7 @@
 use crate::cursor::Cursor;
 use crate::errors::Expected;
 use crate::errors::Refusal;
+use crate::errors::RefusalFromRefused;
 use crate::errors::Sign;
 use crate::names::Names;
 use crate::names::find;
@@ -13,7 +14,6 @@ use crate::parts::Test;
 use crate::rows::MOST_BOUND;
 use crate::words::Line;
 use std::alloc::Global;
-use crate::errors::RefusalFromRefused;
 
 // Where a test stands: in a position it may bound a clock only from above.
 #[derive(Clone, Copy)]
@@ -30,7 +30,12 @@ enum Comparison {
 }
 
 // Takes the next word as a name that is there, and gives its number.
-fn read_name(heap: Global, names: &[String], cursor: &mut Cursor, expected: Expected) -> Result<u32, Refusal> {
+fn read_name(
+    heap: Global,
+    names: &[String],
+    cursor: &mut Cursor,
+    expected: Expected,
+) -> Result<u32, Refusal> {
     let Some(text) = cursor.text() else {
         return Err(cursor.refuse(heap, expected));
     };
@@ -42,15 +47,12 @@ fn read_name(heap: Global, names: &[String], cursor: &mut Cursor, expected: Expe
 }
 
 fn read_comparison(heap: Global, cursor: &mut Cursor, owner: Owner) -> Result<Comparison, Refusal> {
-    let Some(sign) = cursor.sign() else {
-        return Err(cursor.refuse(heap, Expected::Relation));
-    };
-    let comparison = match (sign, owner) {
-        (Sign::AtMost, _) => Comparison::One(Relation::AtMost),
-        (Sign::Below, _) => Comparison::One(Relation::Below),
-        (Sign::AtLeast, Owner::Step) => Comparison::One(Relation::AtLeast),
-        (Sign::Above, Owner::Step) => Comparison::One(Relation::Above),
-        (Sign::Equal, Owner::Step) => Comparison::Equal,
+    let comparison = match (cursor.sign(), owner) {
+        (Some(Sign::AtMost), _) => Comparison::One(Relation::AtMost),
+        (Some(Sign::Below), _) => Comparison::One(Relation::Below),
+        (Some(Sign::AtLeast), Owner::Step) => Comparison::One(Relation::AtLeast),
+        (Some(Sign::Above), Owner::Step) => Comparison::One(Relation::Above),
+        (Some(Sign::Equal), Owner::Step) => Comparison::Equal,
         (_, Owner::Position) => return Err(cursor.refuse(heap, Expected::UpperRelation)),
         (_, Owner::Step) => return Err(cursor.refuse(heap, Expected::Relation)),
     };
@@ -72,22 +74,45 @@ fn read_bound(heap: Global, cursor: &mut Cursor) -> Result<u32, Refusal> {
     Ok(bound)
 }
 
-fn read_test(heap: Global, clocks: &[String], cursor: &mut Cursor, owner: Owner, tests: &mut Vec<Test>) -> Result<(), Refusal> {
+fn read_test(
+    heap: Global,
+    clocks: &[String],
+    cursor: &mut Cursor,
+    owner: Owner,
+    tests: &mut Vec<Test>,
+) -> Result<(), Refusal> {
     let clock = read_name(heap, clocks, cursor, Expected::KnownClock)?;
     let comparison = read_comparison(heap, cursor, owner)?;
     let bound = read_bound(heap, cursor)?;
     match comparison {
-        Comparison::One(relation) => tests.push(Test { clock, relation, bound })?,
+        Comparison::One(relation) => tests.push(Test {
+            clock,
+            relation,
+            bound,
+        })?,
         Comparison::Equal => {
-            tests.push(Test { clock, relation: Relation::AtMost, bound })?;
-            tests.push(Test { clock, relation: Relation::AtLeast, bound })?;
+            tests.push(Test {
+                clock,
+                relation: Relation::AtMost,
+                bound,
+            })?;
+            tests.push(Test {
+                clock,
+                relation: Relation::AtLeast,
+                bound,
+            })?;
         }
     }
     Ok(())
 }
 
 // Tests with commas between them. A line has no more tests than words.
-fn read_tests(heap: Global, clocks: &[String], cursor: &mut Cursor, owner: Owner) -> Result<Vec<Test>, Refusal> {
+fn read_tests(
+    heap: Global,
+    clocks: &[String],
+    cursor: &mut Cursor,
+    owner: Owner,
+) -> Result<Vec<Test>, Refusal> {
     let mut tests = Vec::new(heap);
     for _ in 0..=cursor.line.tokens.len() {
         read_test(heap, clocks, cursor, owner, &mut tests)?;
@@ -111,10 +136,17 @@ fn read_resets(heap: Global, clocks: &[String], cursor: &mut Cursor) -> Result<V
 }
 
 fn read_position(heap: Global, names: &Names, cursor: &mut Cursor) -> Result<Position, Refusal> {
-    let _number = read_name(heap, names.positions.as_slice(), cursor, Expected::PositionName)?;
+    let _number = read_name(
+        heap,
+        names.positions.as_slice(),
+        cursor,
+        Expected::PositionName,
+    )?;
     if !cursor.take_sign(Sign::Colon) {
         cursor.expect_end(heap, Expected::AfterPosition)?;
-        return Ok(Position { tests: Vec::new(heap) });
+        return Ok(Position {
+            tests: Vec::new(heap),
+        });
     }
     let tests = read_tests(heap, names.clocks.as_slice(), cursor, Owner::Position)?;
     cursor.expect_end(heap, Expected::AfterTest)?;
@@ -122,7 +154,11 @@ fn read_position(heap: Global, names: &Names, cursor: &mut Cursor) -> Result<Pos
 }
 
 // The tests of a step, if there are any, and what may stand after them.
-fn read_guard(heap: Global, names: &Names, cursor: &mut Cursor) -> Result<(Vec<Test>, Expected), Refusal> {
+fn read_guard(
+    heap: Global,
+    names: &Names,
+    cursor: &mut Cursor,
+) -> Result<(Vec<Test>, Expected), Refusal> {
     if !cursor.take_word("when") {
         return Ok((Vec::new(heap), Expected::AfterTarget));
     }
@@ -131,11 +167,21 @@ fn read_guard(heap: Global, names: &Names, cursor: &mut Cursor) -> Result<(Vec<T
 }
 
 fn read_step(heap: Global, names: &Names, cursor: &mut Cursor) -> Result<Step, Refusal> {
-    let source = read_name(heap, names.positions.as_slice(), cursor, Expected::KnownPosition)?;
+    let source = read_name(
+        heap,
+        names.positions.as_slice(),
+        cursor,
+        Expected::KnownPosition,
+    )?;
     if !cursor.take_sign(Sign::Arrow) {
         return Err(cursor.refuse(heap, Expected::Arrow));
     }
-    let target = read_name(heap, names.positions.as_slice(), cursor, Expected::KnownPosition)?;
+    let target = read_name(
+        heap,
+        names.positions.as_slice(),
+        cursor,
+        Expected::KnownPosition,
+    )?;
     let (tests, after) = read_guard(heap, names, cursor)?;
     let resets = if cursor.take_word("reset") {
         read_resets(heap, names.clocks.as_slice(), cursor)?
@@ -143,13 +189,25 @@ fn read_step(heap: Global, names: &Names, cursor: &mut Cursor) -> Result<Step, R
         Vec::new(heap)
     };
     cursor.expect_end(heap, after)?;
-    Ok(Step { source, target, tests, resets })
+    Ok(Step {
+        source,
+        target,
+        tests,
+        resets,
+    })
 }
 
-fn read_line(heap: Global, names: &Names, line: &Line, clockwork: &mut Clockwork) -> Result<(), Refusal> {
+fn read_line(
+    heap: Global,
+    names: &Names,
+    line: &Line,
+    clockwork: &mut Clockwork,
+) -> Result<(), Refusal> {
     let mut cursor = Cursor::new(line);
     if cursor.take_word("position") {
-        clockwork.positions.push(read_position(heap, names, &mut cursor)?)?;
+        clockwork
+            .positions
+            .push(read_position(heap, names, &mut cursor)?)?;
     } else if cursor.take_word("step") {
         clockwork.steps.push(read_step(heap, names, &mut cursor)?)?;
     } else if !cursor.take_word("clocks") {

@@ -42,19 +42,21 @@ pub enum Unfit {
 
 pub impl fmt::Display for Unfit as UnfitDisplay {
     fn fmt<W: fmt::Write>(&self, f: &mut fmt::Formatter<W>) -> fmt::Result {
-        f.write_str(match self {
-            Unfit::Memory => "not enough memory",
-            Unfit::Clocks => "no clock, or more than 8 clocks",
-            Unfit::Positions => "no position, or more than 256 positions",
-            Unfit::Clock => "a clock that is not there",
-            Unfit::Position => "a position that is not there",
-            Unfit::Bound => "a number above 10000 in a test",
-            Unfit::Lower => "a position that bounds a clock from below",
-            Unfit::Words => "more than 16384 numbers",
-            Unfit::Short => "a row that ends too early",
-            Unfit::Relation => "a relation above 3",
-            Unfit::Other => "a row that no clockwork has",
-        })
+        f.write_str(
+            match self {
+                Unfit::Memory => "not enough memory",
+                Unfit::Clocks => "no clock, or more than 8 clocks",
+                Unfit::Positions => "no position, or more than 256 positions",
+                Unfit::Clock => "a clock that is not there",
+                Unfit::Position => "a position that is not there",
+                Unfit::Bound => "a number above 10000 in a test",
+                Unfit::Lower => "a position that bounds a clock from below",
+                Unfit::Words => "more than 16384 numbers",
+                Unfit::Short => "a row that ends too early",
+                Unfit::Relation => "a relation above 3",
+                Unfit::Other => "a row that no clockwork has",
+            },
+        )
     }
 }
 
@@ -189,7 +191,12 @@ fn write_step(row: &mut Vec<u32>, clocks: u32, positions: usize, step: &Step) ->
     Ok(())
 }
 
-fn write_steps(row: &mut Vec<u32>, clocks: u32, positions: usize, steps: &[Step]) -> Result<(), Unfit>
+fn write_steps(
+    row: &mut Vec<u32>,
+    clocks: u32,
+    positions: usize,
+    steps: &[Step],
+) -> Result<(), Unfit>
     ensures { λ r. ⌜ made r (λ _. Adds (vec-items (now (row .entry))) (stepsWords (now (steps .entry))) (vec-items (now (row .exit))) × FineSteps clocks positions (now (steps .entry))) ⌝ }
 {
     for step in steps {

@@ -5,8 +5,8 @@ use crate::parts::Relation;
 use crate::parts::Step;
 use crate::parts::Test;
 use crate::rows::Unfit;
-use std::alloc::Global;
 use crate::rows::UnfitFromRefused;
+use std::alloc::Global;
 
 // The numbers of a row that are still to be read.
 #[derive(Drop)]
@@ -45,7 +45,11 @@ fn split_tests(heap: Global, numbers: &mut Numbers) -> Result<Vec<Test>, Unfit> 
         let clock = numbers.next()?;
         let relation = relation(numbers.next()?)?;
         let bound = numbers.next()?;
-        tests.push(Test { clock, relation, bound })?;
+        tests.push(Test {
+            clock,
+            relation,
+            bound,
+        })?;
     }
     Ok(tests)
 }
@@ -72,7 +76,12 @@ fn split_step(heap: Global, numbers: &mut Numbers) -> Result<Step, Unfit> {
     let target = numbers.next()?;
     let tests = split_tests(heap, numbers)?;
     let resets = split_resets(heap, numbers)?;
-    Ok(Step { source, target, tests, resets })
+    Ok(Step {
+        source,
+        target,
+        tests,
+        resets,
+    })
 }
 
 // The steps go on to the end of the row. There are fewer of them than numbers.
@@ -92,5 +101,9 @@ pub fn split_row(heap: Global, row: &[u32]) -> Result<Clockwork, Unfit> {
     let clocks = numbers.next()?;
     let positions = split_positions(heap, &mut numbers)?;
     let steps = split_steps(heap, &mut numbers)?;
-    Ok(Clockwork { clocks, positions, steps })
+    Ok(Clockwork {
+        clocks,
+        positions,
+        steps,
+    })
 }

@@ -6,8 +6,8 @@ use crate::errors::Refusal;
 use crate::errors::RefusalFromAlloc;
 use crate::errors::RefusalFromRefused;
 use crate::errors::Sign;
-use std::alloc::Global;
 use crate::errors::SignDebug;
+use std::alloc::Global;
 
 #[derive(Debug, Drop)]
 pub enum Word {
@@ -107,7 +107,10 @@ fn cut_character(cutter: &mut Cutter, heap: Global, c: char, column: usize) -> R
         '<' => push_sign(cutter, Sign::Below, column),
         '=' => cut_equal(cutter, column),
         _ => Err(Refusal::Wrong {
-            place: Place { line: cutter.line, column },
+            place: Place {
+                line: cutter.line,
+                column,
+            },
             found: Found::Character(c),
             expected: Expected::Character,
         }),
@@ -130,8 +133,17 @@ pub fn cut_line(heap: Global, number: usize, text: &str) -> Result<Line, Refusal
         column = column.saturating_add(1);
     }
     end_text(&mut cutter, heap)?;
-    let Cutter { line: _, tokens, text: _, start: _ } = cutter;
-    Ok(Line { number, tokens, end: column })
+    let Cutter {
+        line: _,
+        tokens,
+        text: _,
+        start: _,
+    } = cutter;
+    Ok(Line {
+        number,
+        tokens,
+        end: column,
+    })
 }
 
 // The lines of a text that have words.

@@ -10,9 +10,9 @@ returns-in-Ok c =
     let clockwork = c .args .clockwork .now in
     let clocks : vec-len (c .args .names .clocks) ≡ clockwork .clocks = omega arith in
     let positions : vec-len (c .args .names .positions) ≡ length (vec-items (clockwork .positions)) = omega (arith, clockwork .positions .ok .0) in
-    record
-      { drawn = automaton clockwork
-      ; reads = c .in-Ok .ensures tt
-      ; clock-names = clocks
-      ; position-names = positions ∙ sym (length-map (vec-items (clockwork .positions)) invariantOf)
-      }
+    record {
+      drawn = automaton clockwork;
+      reads = c .in-Ok .ensures tt;
+      clock-names = clocks;
+      position-names = positions ∙ sym (length-map (vec-items (clockwork .positions)) invariantOf);
+    }
