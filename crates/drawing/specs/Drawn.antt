@@ -1,0 +1,14 @@
+-- What a drawing that was read gives.
+use mathlib.Core.Path.{_≡_}
+use mathlib.Core.List.{List}
+use Prim.Native.Nat.{ℕ}
+use lib.ListN.{length}
+use Rattle.automata.specs.Automata.{Automaton}
+use Rattle.automata.specs.Rows.{Reads}
+
+-- the row is the writing of an automaton, and there is a name for each of its clocks and locations
+pub record Draws (row : List ℕ) (clocks positions : ℕ) : Type 0 where
+  pub drawn : Automaton
+  pub reads : Reads row drawn
+  pub clock-names : clocks ≡ drawn .clocks
+  pub position-names : positions ≡ length (drawn .invariants)

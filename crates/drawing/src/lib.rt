@@ -1,0 +1,123 @@
+// The readable form of a timed automaton: a drawing of a clockwork is read into its row of numbers, and a row is drawn.
+ghost use lib.ListN.{length};
+ghost use Rattle.std.specs.Of.Vec.{vec-items, vec-len};
+ghost use Rattle.std.specs.Vec.{made};
+ghost use Rattle.automata.specs.Automata.{Automaton};
+ghost use Rattle.automata.specs.Rows.{Reads};
+ghost use Rattle.drawing.specs.Drawn.{Draws};
+use crate::errors::Expected;
+use crate::errors::Found;
+use crate::errors::Place;
+use crate::errors::Refusal;
+use crate::names::Names;
+use crate::parts::Clockwork;
+use crate::rows::Unfit;
+use crate::rows::UnfitFromFmt;
+use std::alloc::Global;
+
+mod cursor;
+pub mod errors;
+mod names;
+pub mod parts;
+mod reader;
+pub mod rows;
+mod sheet;
+mod split;
+#[cfg(test)]
+mod tests;
+mod words;
+
+// A clockwork's row, with the names of its clocks and positions in the order of their numbers.
+#[derive(Debug, Drop)]
+pub struct Drawing {
+    pub row: Vec<u32>,
+    pub clocks: Vec<String>,
+    pub positions: Vec<String>,
+}
+
+// The place past the first `count` bytes: a byte that goes on with a character takes no column.
+fn place_after(bytes: &[u8], count: usize) -> Place {
+    let mut line = 1usize;
+    let mut column = 1usize;
+    for byte in bytes.iter().take(count) {
+        if *byte == b'\n' {
+            line = line.saturating_add(1);
+            column = 1;
+        } else if *byte & 0xc0 != 0x80 {
+            column = column.saturating_add(1);
+        }
+    }
+    Place { line, column }
+}
+
+fn as_text(bytes: &[u8]) -> Result<&str, Refusal> {
+    match std::str::from_utf8(bytes) {
+        Ok(text) => Ok(text.strip_prefix('\u{feff}').unwrap_or(text)),
+        Err(error) => Err(Refusal::Wrong {
+            place: place_after(bytes, error.valid_up_to()),
+            found: Found::Bytes,
+            expected: Expected::Utf8,
+        }),
+    }
+}
+
+// The row of what was read, with its names.
+fn finish(heap: Global, end: Place, names: Names, clockwork: &Clockwork) -> Result<Drawing, Refusal>
+    ensures { λ r. ⌜ made r (λ d. Draws (vec-items (d .row)) (vec-len (d .clocks)) (vec-len (d .positions))) ⌝ }
+{
+    let Names { clocks, positions } = names;
+    let expected = if clocks.is_empty() {
+        Expected::Clocks
+    } else {
+        Expected::Positions
+    };
+    if clocks.len() != clockwork.clocks as usize || positions.len() != clockwork.positions.len() {
+        return Err(Refusal::Wrong {
+            place: end,
+            found: Found::TextEnd,
+            expected,
+        });
+    }
+    if clocks.is_empty() || positions.is_empty() {
+        return Err(Refusal::Wrong {
+            place: end,
+            found: Found::TextEnd,
+            expected,
+        });
+    }
+    match rows::write_row(heap, clockwork) {
+        Ok(row) => Ok(Drawing {
+            row,
+            clocks,
+            positions,
+        }),
+        Err(Unfit::Memory) => Err(Refusal::Memory),
+        Err(unfit) => Err(Refusal::Wrong {
+            place: end,
+            found: Found::Unfit(unfit),
+            expected: Expected::Row,
+        }),
+    }
+}
+
+// Reads a drawing. What it gives is the writing of an automaton, with a name for each of its clocks and positions.
+pub fn read(heap: Global, bytes: &[u8]) -> Result<Drawing, Refusal>
+    ensures { λ r. ⌜ made r (λ d. Draws (vec-items (d .row)) (vec-len (d .clocks)) (vec-len (d .positions))) ⌝ }
+{
+    let lines = words::cut_lines(heap, as_text(bytes)?)?;
+    let names = names::declare_all(heap, lines.as_slice())?;
+    let clockwork = reader::read_lines(heap, &names, lines.as_slice())?;
+    finish(heap, place_after(bytes, bytes.len()), names, &clockwork)
+}
+
+// Draws a row: refuses one that is not the writing of an automaton. Tests show, and no proof, that to read the text gives the row again.
+pub fn draw(heap: Global, row: &[u32]) -> Result<String, Unfit>
+    ensures { λ r. ⌜ made r (λ _. (a : Automaton) × Reads (now (row .entry)) a) ⌝ }
+{
+    let clockwork = split::split_row(heap, row)?;
+    let again = rows::write_row(heap, &clockwork)?;
+    if again.as_slice() != row {
+        return Err(Unfit::Other);
+    }
+    Ok(sheet::write_sheet(heap, &clockwork)?)
+}
