@@ -1,0 +1,2 @@
+-- What bounds on differences of clocks mean, and squares of them.
+pub mod Bounds

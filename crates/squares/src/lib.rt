@@ -1,0 +1,2 @@
+// A region as differences of clocks: a square of upper bounds (a difference-bound matrix).
+pub mod bounds;
