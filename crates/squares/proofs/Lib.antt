@@ -1,1 +1,2 @@
 -- What is proved of bounds and squares.
+mod Tightness

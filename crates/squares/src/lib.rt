@@ -1,2 +1,3 @@
 // A region as differences of clocks: a square of upper bounds (a difference-bound matrix).
 pub mod bounds;
+pub mod squares;
