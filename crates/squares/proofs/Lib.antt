@@ -1,2 +1,3 @@
 -- What is proved of bounds and squares.
 mod Tightness
+mod Filling
