@@ -1,3 +1,5 @@
 -- What is proved of bounds and squares.
 mod Tightness
 mod Filling
+mod Differences
+mod Seen
