@@ -3,3 +3,4 @@ mod Tightness
 mod Filling
 mod Differences
 mod Seen
+mod PointsWithin
