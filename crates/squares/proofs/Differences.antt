@@ -90,8 +90,7 @@ module _ (top d x y : ℕ) (c e : Cell) where
     pub keeps-less : c .rank < e .rank
         → KeepsOver d x y (between top c e) ↔ (x + d * (e .height / 2) < y + d * (c .height / 2))
     keeps-less s =
-        rw
-        (
+        rw (
           none-beyond top c e inside inside′,
           ne-eqb (c .rank) (e .rank) (λ f. omega arith),
           le-ltb (e .rank) (c .rank) (omega arith),
@@ -104,8 +103,7 @@ module _ (top d x y : ℕ) (c e : Cell) where
     pub keeps-greater : e .rank < c .rank
         → KeepsOver d x y (between top c e) ↔ (x + d * (e .height / 2) < y + d * (c .height / 2) + d)
     keeps-greater s =
-        rw
-        (
+        rw (
           none-beyond top c e inside inside′,
           ne-eqb (c .rank) (e .rank) (λ f. omega arith),
           lt-ltb (e .rank) (c .rank) s,

@@ -1,11 +1,9 @@
 -- A point is within the square of a region just where it shows the region.
-use mathlib.Core.Path.{_≡_, refl, sym, ap}
-use mathlib.Core.Bool.{Bool, true, false}
-use mathlib.Core.Logic.{_⊎_, inl, inr, _↔_}
+use mathlib.Core.Path.{_≡_, refl}
+use mathlib.Core.Logic.{inl, inr, _↔_}
 use Prim.Native.Nat.{ℕ, zero, suc, _+_, _*_, _≤_, _<_}
 use native.Mathlib.Omega.{arith}
-use lib.Dec.{eqb}
-use borrow.Author.Tests.{eqb-true, eqb-false, eq-eqb, ne-eqb}
+use borrow.Author.Tests.{ne-eqb}
 use Rattle.regions.specs.Points.{Point, On, Shows}
 use Rattle.cells.specs.declared.values.Region.{Region}
 use Rattle.cells.specs.Meaning.{cellOf, regionIs}
@@ -13,15 +11,8 @@ use Rattle.squares.specs.declared.squares.Square.{Square}
 use Rattle.squares.specs.Squares.{entry}
 use Rattle.squares.specs.Differences.{KeepsOver, ageAt, restAt, WithinOver}
 use Rattle.squares.specs.Entries.{Consistent, cellAt, between, boundAt}
+use Rattle.squares.proofs.Indices.{same-or-not}
 use Rattle.squares.proofs.Seen.{Seen, Ordered, nought, nought-seen, seen-keeps, keeps-order, keeps-seen}
-
--- a number is another or is not
-pub same-or-not : (i j : ℕ) → ((i ≡ j) × (eqb i j ≡ true)) ⊎ ((i ≡ j → ⊥) × (eqb i j ≡ false))
-same-or-not i j = go (eqb i j) refl
-  where
-    go : (b : Bool) → eqb i j ≡ b → ((i ≡ j) × (eqb i j ≡ true)) ⊎ ((i ≡ j → ⊥) × (eqb i j ≡ false))
-    go true e = inl (eqb-true i j e, e)
-    go false e = inr (eqb-false i j e, e)
 
 positive-by : {x y : ℕ} → (y ≡ 0 → x ≡ 0) → 0 < x → 0 < y
 positive-by {y = zero} f l = absurd (omega (arith, f refl))
@@ -52,10 +43,10 @@ module _ (n d top : ℕ) (p : Point) (K : Region) (q : Square) (of : Of n top K 
         → j ≤ n
         → (i ≡ j → ⊥)
         → KeepsOver
-          d
-          (d * ageAt p i + restAt p i)
-          (d * ageAt p j + restAt p j)
-          (between top (cellAt K i) (cellAt K j))
+        d
+        (d * ageAt p i + restAt p i)
+        (d * ageAt p j + restAt p j)
+        (between top (cellAt K i) (cellAt K j))
     kept i j h g ne = rw (off-diagonal n top K q i j of h g ne) at (within i j h g)
 
     seen : (i : ℕ) → i < n → Seen top (cellOf K i) (p .age i) (p .rest i)

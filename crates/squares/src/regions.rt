@@ -6,12 +6,12 @@ ghost use lib.Dec.{T};
 ghost use Rattle.cells.specs.Meaning.{cellOf, regionIs};
 ghost use Rattle.squares.specs.Entries.{Consistent, cellAt, between};
 ghost use Rattle.squares.specs.Shown.{Squared};
+use crate::bounds::Bound;
+use crate::squares::Square;
 use cells::values::Cell;
 use cells::values::MOST_CLOCKS;
 use cells::values::Region;
 use rows::reader::MOST_BOUND;
-use crate::bounds::Bound;
-use crate::squares::Square;
 
 // Whether a clock can have the cell.
 fn is_consistent(cell: Cell, top: u32) -> bool
