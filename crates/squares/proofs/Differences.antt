@@ -16,7 +16,7 @@ use Rattle.squares.specs.Differences.{KeepsOver}
 use Rattle.squares.specs.Entries.{oneIf, between}
 
 -- a bound by a difference of naturals
-at-most-by : (d x y a b : ℕ) (z : ℤ)
+pub at-most-by : (d x y a b : ℕ) (z : ℤ)
     → z +ℤ pos b ≡ pos a
     → KeepsOver d x y (UpTo z false) ↔ (x + d * b ≤ y + d * a)
 at-most-by d x y a b (pos m) e =
@@ -26,7 +26,7 @@ at-most-by d x y a b (negsuc m) e =
     let f : a + suc m ≡ b = omega (arith, ints) in
     let g : d * (a + suc m) ≡ d * b = ap (λ (k : ℕ). d * k) f in (λ h. omega arith, λ h. omega arith)
 
-below-by : (d x y a b : ℕ) (z : ℤ)
+pub below-by : (d x y a b : ℕ) (z : ℤ)
     → z +ℤ pos b ≡ pos a
     → KeepsOver d x y (UpTo z true) ↔ (x + d * b < y + d * a)
 below-by d x y a b (pos m) e =

@@ -7,4 +7,5 @@ mod Seen
 mod PointsWithin
 mod Sharpest
 mod StatesWithin
+mod Consequences
 mod SquareOf

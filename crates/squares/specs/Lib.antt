@@ -2,5 +2,6 @@
 pub mod Bounds
 pub mod Squares
 pub mod Differences
+pub mod Consequences
 pub mod Shown
 pub mod Entries
