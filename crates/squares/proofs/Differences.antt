@@ -1,16 +1,15 @@
 -- What the bound between two cells says of the differences of points, case by case.
 use mathlib.Core.Path.{_≡_, refl, ap}
-use mathlib.Core.Bool.{Bool, true, false, not, cond}
+use mathlib.Core.Bool.{true, false, not}
 use mathlib.Core.Logic.{_⊎_, inl, inr, _↔_}
-use Prim.Native.Nat.{ℕ, zero, suc, _+_, _*_, _/_, _%_, _≤_, _<_}
+use Prim.Native.Nat.{ℕ, suc, _+_, _*_, _/_, _≤_, _<_}
 use native.Mathlib.Omega.{arith}
 use native.Mathlib.Decide.{decLt}
-use lib.Dec.{ltb, eqb}
+use lib.Dec.{eqb}
 use lib.IntN.{ℤ, pos, negsuc, _+ℤ_, _-ℤ_}
 use borrow.Author.Tests.{lt-ltb, le-ltb, eq-eqb, ne-eqb}
 use Rattle.std.proofs.shelf.Signed.{ints}
 use Rattle.cells.specs.declared.values.Cell.{Cell}
-use Rattle.squares.specs.declared.bounds.Bound.{Bound}
 use Rattle.squares.specs.declared.bounds.Bound.the-variants.{Unbounded, UpTo}
 use Rattle.squares.specs.Differences.{KeepsOver}
 use Rattle.squares.specs.Entries.{oneIf, between}

@@ -12,7 +12,7 @@ use Rattle.squares.specs.Squares.{entry}
 use Rattle.squares.specs.Differences.{KeepsOver, ageAt, restAt, WithinOver}
 use Rattle.squares.specs.Entries.{Consistent, cellAt, between, boundAt}
 use Rattle.squares.proofs.Indices.{same-or-not}
-use Rattle.squares.proofs.Seen.{Seen, Ordered, nought, nought-seen, seen-keeps, keeps-order, keeps-seen}
+use Rattle.squares.proofs.Seen.{Seen, Ordered, nought-seen, seen-keeps, keeps-order, keeps-seen}
 
 positive-by : {x y : ℕ} → (y ≡ 0 → x ≡ 0) → 0 < x → 0 < y
 positive-by {y = zero} f l = absurd (omega (arith, f refl))

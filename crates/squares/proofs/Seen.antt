@@ -1,14 +1,14 @@
 -- A cell and the value of a clock: the clock is seen in the cell just where its differences keep the bounds.
 use mathlib.Core.Path.{_≡_, refl, ap}
-use mathlib.Core.Logic.{_⊎_, inl, inr, _↔_}
-use Prim.Native.Nat.{ℕ, zero, suc, _+_, _*_, _/_, _%_, _≤_, _<_}
+use mathlib.Core.Logic.{inl, inr, _↔_}
+use Prim.Native.Nat.{ℕ, _+_, _*_, _/_, _%_, _≤_, _<_}
 use native.Mathlib.Omega.{arith}
 use native.Mathlib.Decide.{decLt}
 use Rattle.regions.specs.Points.{heightOf}
 use Rattle.regions.proofs.Guards.{height-cases, compare-multiples}
 use Rattle.cells.specs.declared.values.Cell.{Cell}
 use Rattle.squares.specs.Differences.{KeepsOver}
-use Rattle.squares.specs.Entries.{Consistent, oneIf, between}
+use Rattle.squares.specs.Entries.{Consistent, between}
 use Rattle.squares.proofs.Differences.{oneIf-cases, keeps-first-beyond, keeps-second-beyond, keeps-equal, keeps-less, keeps-greater}
 
 -- a clock with the whole part g and r d-ths left over, in a cell

@@ -1,13 +1,13 @@
 -- The square of a region is tight: no bound between two cells follows more sharply by way of a third.
-use mathlib.Core.Path.{_≡_, refl, sym, _∙_}
+use mathlib.Core.Path.{_≡_, refl, sym}
 use mathlib.Core.Bool.{Bool, true, false, not, _||_}
-use mathlib.Core.Logic.{_⊎_, inl, inr}
-use Prim.Native.Nat.{ℕ, zero, suc, _+_, _*_, _/_, _≤_, _<_}
+use mathlib.Core.Logic.{inl, inr}
+use Prim.Native.Nat.{ℕ, _+_, _*_, _/_, _≤_}
 use native.Mathlib.Omega.{arith}
 use native.Mathlib.Decide.{decLt}
 use lib.Dec.{eqb}
-use lib.IntN.{ℤ, pos, _+ℤ_, _-ℤ_}
-use borrow.Author.Tests.{eq-eqb, ne-eqb}
+use lib.IntN.{pos, _+ℤ_, _-ℤ_}
+use borrow.Author.Tests.{eq-eqb}
 use Rattle.std.proofs.shelf.Signed.{ints}
 use Rattle.cells.specs.declared.values.Cell.{Cell}
 use Rattle.cells.specs.declared.values.Region.{Region}
@@ -16,7 +16,7 @@ use Rattle.squares.specs.declared.bounds.Bound.the-variants.{Unbounded, UpTo}
 use Rattle.squares.specs.declared.squares.Square.{Square}
 use Rattle.squares.specs.Bounds.{sum, Sharper}
 use Rattle.squares.specs.Squares.{entry, Tight}
-use Rattle.squares.specs.Entries.{cellAt, oneIf, between, boundAt}
+use Rattle.squares.specs.Entries.{cellAt, oneIf, between}
 use Rattle.squares.proofs.Differences.{oneIf-cases, first-beyond, second-beyond, none-beyond}
 use Rattle.squares.proofs.Indices.{same-or-not}
 use Rattle.squares.proofs.PointsWithin.{Of, off-diagonal}

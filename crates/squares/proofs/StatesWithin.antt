@@ -1,7 +1,7 @@
 -- A state is within the square of a region just where it shows the region: by the point of a grid that it is.
-use mathlib.Core.Path.{_≡_, refl, sym, _∙_, ap}
+use mathlib.Core.Path.{_≡_, sym, _∙_, ap}
 use mathlib.Core.Bool.{true, false}
-use mathlib.Core.Logic.{_⊎_, inl, inr, _↔_}
+use mathlib.Core.Logic.{inl, inr, _↔_}
 use Prim.Native.Nat.{ℕ, zero, suc, _+_, _*_, _≤_, _<_}
 use native.Mathlib.Nat.{mul-pos, mul-le-mul-right, mul-lt-mul-of-pos-right, le-of-mul-le-mul-right, lt-of-mul-lt-mul-right}
 use native.Mathlib.Omega.{arith}
@@ -19,7 +19,7 @@ use Rattle.squares.specs.declared.bounds.Bound.{Bound}
 use Rattle.squares.specs.declared.bounds.Bound.the-variants.{Unbounded, UpTo}
 use Rattle.squares.specs.declared.squares.Square.{Square}
 use Rattle.squares.specs.Squares.{entry}
-use Rattle.squares.specs.Differences.{NotMore, units, Keeps, valueAt, Within, KeepsOver, ageAt, restAt, WithinOver}
+use Rattle.squares.specs.Differences.{units, Keeps, valueAt, Within, KeepsOver, ageAt, restAt, WithinOver}
 use Rattle.squares.specs.Shown.{ShowsRegion}
 
 -- numbers that are in proportion are in the same order

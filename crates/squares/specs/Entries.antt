@@ -11,7 +11,8 @@ use Rattle.cells.specs.Meaning.{cellOf}
 use Rattle.squares.specs.declared.bounds.Bound.{Bound}
 use Rattle.squares.specs.declared.bounds.Bound.the-variants.{Unbounded, UpTo}
 
--- some clock can have the cell: it is at most just above the top, and below that its rank is 0 just where nothing is left over
+-- a clock can have the cell: it is no higher than just above the top; and where it is not beyond, its rank is 0 just where
+-- nothing is left over
 abbrev pub Consistent : ℕ → Cell → Type 0
 Consistent top c = (c .height ≤ 2 * top + 1) × (c .height ≤ 2 * top → (c .rank ≡ 0) ↔ (c .height % 2 ≡ 0))
 
@@ -20,7 +21,7 @@ abbrev pub cellAt : Region → ℕ → Cell
 cellAt K zero = record { height = 0; rank = 0 }
 cellAt K (suc i) = cellOf K i
 
--- one more where something holds
+-- 1 where m is less than n, and 0 where it is not
 abbrev pub oneIf : ℕ → ℕ → ℕ
 oneIf m n = cond (ltb m n) 1 0
 

@@ -27,7 +27,8 @@ pub record ShowsRegion (n top : ℕ) (s : State) (K : Region) : Type 0 where
       → K .height j ≤ 2 * top
       → (K .rank i < K .rank j) ↔ Less (fraction (clock s i)) (fraction (clock s j))
 
--- a state at the region's location is within all bounds exactly if it shows the region, and so is a point of a grid
+-- a state at the region's location is within all bounds exactly if it shows the region, and so is a point of a grid; and no
+-- bound follows more sharply from two others
 pub record SquareOf (n top : ℕ) (K : Region) (q : Square) : Type 0 where
   pub states : (s : State)
       → length (s .valuation) ≡ n
