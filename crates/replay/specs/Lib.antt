@@ -1,0 +1,3 @@
+-- Runs as lists of moves, over one denominator.
+pub mod Checks
+pub mod Meaning

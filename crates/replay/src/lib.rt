@@ -1,0 +1,4 @@
+// Runs gone through again: a list of waits and steps is followed by the definitions, with exact fractions over one
+// denominator, and accepted only if it is a run.
+pub mod moments;
+mod checks;
