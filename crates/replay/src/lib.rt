@@ -2,3 +2,4 @@
 // denominator, and accepted only if it is a run.
 pub mod moments;
 mod checks;
+mod changes;
