@@ -1,4 +1,6 @@
 -- Runs as lists of moves, over one denominator.
-pub mod Checks
 pub mod Meaning
+pub mod Checks
 pub mod Changes
+pub mod Moves
+pub mod Outcomes

@@ -1,5 +1,6 @@
 // Runs gone through again: a list of waits and steps is followed by the definitions, with exact fractions over one
 // denominator, and accepted only if it is a run.
-pub mod moments;
-mod checks;
 mod changes;
+mod checks;
+pub mod moments;
+pub mod runs;
