@@ -5,3 +5,4 @@ pub mod Compared
 pub mod InRange
 pub mod Telling
 pub mod Moving
+pub mod Paths

@@ -7,7 +7,7 @@ use native.Mathlib.Omega.{arith}
 use lib.ListN.{length}
 use Rattle.automata.specs.Automata.{nth}
 
-none≢some : {A B : Type 0} (x : A) → none ≡ some x → B
+pub none≢some : {A B : Type 0} (x : A) → none ≡ some x → B
 none≢some x e = let z : _≡_ {A = ℕ} 0 1 = cc in absurd (omega arith)
 
 pub some-within : {A : Type 0} (xs : List A) (i : ℕ) (x : A) → nth xs i ≡ some x → i < length xs

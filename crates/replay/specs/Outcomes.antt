@@ -1,8 +1,8 @@
 -- What the functions that go through a run tell: the moment that is come to, or why there is none.
 use mathlib.Core.Path.{_≡_}
-use mathlib.Core.List.{List}
+use mathlib.Core.List.{List, [], _∷_}
 use mathlib.Core.Option.{some, none}
-use Prim.Native.Nat.{ℕ, _≤_, _<_}
+use Prim.Native.Nat.{ℕ, _+_, _^_, _≤_, _<_}
 use Rattle.std.specs.declared.result.Result.{Result}
 use Rattle.std.specs.declared.result.Result.the-variants.{Ok, Err}
 use Rattle.automata.specs.Automata.{nth, Edge, Automaton}
@@ -81,3 +81,30 @@ Fails a d m (Step i) f = StepFails a d m i f
 abbrev pub Advances : Automaton → ℕ → Moment → Move → Result Moment Fault → Type 0
 Advances a d m by (Ok after) = Advanced a d m by after
 Advances a d m by (Err f) = Fails a d m by f
+
+-- the sum of the waits
+abbrev pub waits : List Move → ℕ
+waits [] = 0
+waits (Wait k ∷ ms) = k + waits ms
+waits (Step i ∷ ms) = waits ms
+
+-- the moves are a run of the definitions, which ends at that location, with just these values of the clocks, at just that time
+pub record Replayed (a : Automaton) (d : ℕ) (moves : List Move) (m : Moment) : Type 0 where
+  pub denominator : 1 ≤ d
+  pub come : ComeTo a d m
+  pub run : (s : State) × Run a d moves s × Tells (a .clocks) d m s
+  pub time : m .time ≡ waits moves
+
+-- why the moves are refused: but for the first two faults they are no run
+abbrev pub Refused : Automaton → ℕ → List Move → Fault → Type 0
+Refused a d moves NoDenominator = d ≡ 0
+Refused a d moves NoRoom = 2 ^ 64 ≤ waits moves
+Refused a d moves NotAllowedAtStart = (s : State) → Run a d moves s → ⊥
+Refused a d moves NoSuchStep = (s : State) → Run a d moves s → ⊥
+Refused a d moves OtherPosition = (s : State) → Run a d moves s → ⊥
+Refused a d moves GuardFails = (s : State) → Run a d moves s → ⊥
+Refused a d moves InvariantFails = (s : State) → Run a d moves s → ⊥
+
+abbrev pub Replays : Automaton → ℕ → List Move → Result Moment Fault → Type 0
+Replays a d moves (Ok m) = Replayed a d moves m
+Replays a d moves (Err f) = Refused a d moves f

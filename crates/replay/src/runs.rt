@@ -4,7 +4,7 @@ ghost use Prim.Native.Nat.{_≤_};
 ghost use Rattle.automata.specs.Automata as automata;
 ghost use Rattle.rows.specs.Views.{Views};
 ghost use Rattle.replay.specs.declared.moments.Move.the-variants.{Wait, Step};
-ghost use Rattle.replay.specs.Outcomes.{Begins, Advances};
+ghost use Rattle.replay.specs.Outcomes.{Begins, Advances, Replays};
 use crate::changes::numbered_edge;
 use crate::changes::waited;
 use crate::changes::with_resets;
@@ -96,4 +96,19 @@ pub fn advance(
         Move::Wait(delay) => wait(automaton, denominator, moment, delay),
         Move::Step(number) => step(automaton, denominator, moment, number),
     }
+}
+
+// Goes through all moves, from the start. What is accepted is a run to that location at that time; what is refused is none,
+// unless a number has no room or the denominator is 0.
+pub fn replay(automaton: &Automaton, denominator: u64, moves: &[Move]) -> Result<Moment, Fault>
+    ensures { λ r. ⌜ ((a : automata.Automaton) → Views (now (automaton .entry)) a → Replays a denominator (now (moves .entry)) r) ⌝ }
+{
+    if denominator == 0 {
+        return Err(Fault::NoDenominator);
+    }
+    let mut moment = begin(automaton)?;
+    for next in moves {
+        moment = advance(automaton, denominator, &moment, *next)?;
+    }
+    Ok(moment)
 }
