@@ -6,3 +6,4 @@ pub mod InRange
 pub mod Telling
 pub mod Moving
 pub mod Paths
+pub mod Divisors

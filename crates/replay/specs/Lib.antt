@@ -4,3 +4,4 @@ pub mod Checks
 pub mod Changes
 pub mod Moves
 pub mod Outcomes
+pub mod Fractions

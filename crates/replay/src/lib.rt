@@ -2,5 +2,6 @@
 // denominator, and accepted only if it is a run.
 mod changes;
 mod checks;
+pub mod fractions;
 pub mod moments;
 pub mod runs;

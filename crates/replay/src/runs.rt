@@ -33,6 +33,7 @@ pub fn begin(automaton: &Automaton) -> Result<Moment, Fault>
     Ok(start)
 }
 
+// One wait.
 fn wait(
     automaton: &Automaton,
     denominator: u64,
@@ -42,15 +43,16 @@ fn wait(
     requires { ⌜ 1 ≤ denominator ⌝ }
     ensures { λ r. ⌜ ((a : automata.Automaton) → Views (now (automaton .entry)) a → Advances a denominator (now (moment .entry)) (Wait delay) r) ⌝ }
 {
-    let Some(after) = waited(moment, delay) else {
+    let Some(later) = waited(moment, delay) else {
         return Err(Fault::NoRoom);
     };
-    if !allowed(automaton, denominator, &after) {
+    if !allowed(automaton, denominator, &later) {
         return Err(Fault::InvariantFails);
     }
-    Ok(after)
+    Ok(later)
 }
 
+// One edge.
 fn step(
     automaton: &Automaton,
     denominator: u64,
