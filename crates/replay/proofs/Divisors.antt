@@ -1,5 +1,5 @@
 -- Common divisors: Euclid's step keeps them, and dividing by the greatest leaves only 1.
-use mathlib.Core.Path.{_≡_, refl, sym, _∙_, ap, subst}
+use mathlib.Core.Path.{_≡_, ap, subst}
 use mathlib.Core.Logic.{_↔_}
 use Prim.Native.Nat.{ℕ, zero, suc, _*_, _/_, _%_, _≤_, _∣_}
 use native.Mathlib.Nat.{dvd-mul-left, dvd-mod-iff, div-mul-cancel, eq-one-of-dvd-one, eq-of-mul-eq-mul-right}

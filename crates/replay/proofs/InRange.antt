@@ -1,5 +1,5 @@
 -- The constraints of an automaton that was read are of its clocks, of which there are at most eight.
-use mathlib.Core.Path.{_≡_, refl, subst}
+use mathlib.Core.Path.{_≡_, subst}
 use mathlib.Core.Bool.{Bool, true, false, _&&_}
 use mathlib.Core.List.{List, [], _∷_}
 use mathlib.Core.Option.{some}
@@ -8,7 +8,7 @@ use native.Mathlib.Omega.{arith}
 use lib.Dec.{T, leb, ltb, leb→le, ltb→lt}
 use lib.ListN.{length}
 use Rattle.automata.specs.Automata.{nth, Constraint, Edge, Automaton, orEmpty, invariant}
-use Rattle.automata.specs.Rows.{upper, fineConstraint, fineGuard, fineInvariant, fineInvariants, fineResets, fineEdge, fineEdges, fine, Reads}
+use Rattle.automata.specs.Rows.{upper, fineConstraint, fineGuard, fineInvariant, fineInvariants, fineResets, fineEdge, fineEdges, Reads}
 
 -- every constraint is of a clock below n
 abbrev pub Within : ℕ → List Constraint → Type 0

@@ -2,7 +2,7 @@
 use mathlib.Core.Path.{_≡_, refl, sym, _∙_, subst}
 use mathlib.Core.List.{List}
 use mathlib.Core.Option.{some}
-use Prim.Native.Nat.{ℕ, _≤_, _<_}
+use Prim.Native.Nat.{ℕ, _≤_}
 use native.Mathlib.Omega.{arith}
 use Rattle.automata.specs.Automata.{nth, Constraint, Edge, Automaton, invariant}
 use Rattle.automata.specs.Runs as runs
@@ -44,6 +44,25 @@ module _ (a : Automaton) (range : InRange a) (d : ℕ) (pos : 1 ≤ d) where
       → HoldsParts d (clockOf m) cs
   hold-to m s cs within tells = holds-parts (a .clocks) d (s .valuation) (clockOf m) pos (tells .value) cs within
 
+  -- the invariant of the moment's own location
+  allowed-from : (m : Moment) (s : State)
+      → Tells (a .clocks) d m s
+      → HoldsParts d (clockOf m) (invariant a (m .location .0))
+      → Allowed a (s .location) (s .valuation)
+  allowed-from m s tells holds =
+      subst
+      (λ (l : ℕ). Allowed a l (s .valuation))
+      (tells .location)
+      (hold-from m s (invariant a (m .location .0)) (range .invariants (m .location .0)) tells holds)
+
+  allowed-to : (m : Moment) (s : State)
+      → Tells (a .clocks) d m s
+      → Allowed a (s .location) (s .valuation)
+      → HoldsParts d (clockOf m) (invariant a (m .location .0))
+  allowed-to m s tells allowed =
+      hold-to m s (invariant a (m .location .0)) (range .invariants (m .location .0)) tells
+      (subst (λ (l : ℕ). Allowed a l (s .valuation)) (sym (tells .location)) allowed)
+
   come-on : (by : Move) (m after : Moment)
       → ((s : State) → Tells (a .clocks) d m s → (u : State) × Makes a d by s u × Tells (a .clocks) d after u)
       → ComeTo a d m
@@ -61,14 +80,7 @@ module _ (a : Automaton) (range : InRange a) (d : ℕ) (pos : 1 ≤ d) where
     wait-makes holds s tells =
         let told = waited-tells (a .clocks) d k m after s (range .clocks) pos waited tells in (
           delayedState (parts d k) s,
-          record {
-            allowed =
-                subst
-                (λ (l : ℕ). Allowed a l (delayed (parts d k) (s .valuation)))
-                (told .location)
-                (hold-from after (delayedState (parts d k) s) (invariant a (after .location .0)) (range .invariants (after .location .0)) told holds);
-            to = refl;
-          },
+          record { allowed = allowed-from after (delayedState (parts d k) s) told holds; to = refl },
           told,
         )
 
@@ -88,9 +100,7 @@ module _ (a : Automaton) (range : InRange a) (d : ℕ) (pos : 1 ≤ d) where
         → ⊥
     wait-fails not s tells allowed =
         let told = waited-tells (a .clocks) d k m after s (range .clocks) pos waited tells in
-        not
-        (hold-to after (delayedState (parts d k) s) (invariant a (after .location .0)) (range .invariants (after .location .0)) told
-        (subst (λ (l : ℕ). Allowed a l (delayed (parts d k) (s .valuation))) (sym (told .location)) allowed))
+        not (allowed-to after (delayedState (parts d k) s) told allowed)
 
   -- a step
   module _ (i : ℕ) (e : Edge) (m : Moment) (number : nth (a .edges) i ≡ some e) where
@@ -109,9 +119,7 @@ module _ (a : Automaton) (range : InRange a) (d : ℕ) (pos : 1 ≤ d) where
           → ⊥
       target-fails not s tells allowed =
           let told = taken-tells (a .clocks) d e m after s (range .clocks) taken tells in
-          not
-          (hold-to after (edgeState e s) (invariant a (after .location .0)) (range .invariants (after .location .0)) told
-          (subst (λ (l : ℕ). Allowed a l (resetAll (s .valuation) (e .resets))) (sym (taken .location)) allowed))
+          not (allowed-to after (edgeState e s) told allowed)
 
       step-makes : e .source ≡ m .location .0
           → HoldsParts d (clockOf m) (e .guard)
@@ -128,11 +136,7 @@ module _ (a : Automaton) (range : InRange a) (d : ℕ) (pos : 1 ≤ d) where
                 number = number;
                 source = source ∙ tells .location;
                 guard = hold-from m s (e .guard) (range .guards i e number) tells guard;
-                allowed =
-                    subst
-                    (λ (l : ℕ). Allowed a l (resetAll (s .valuation) (e .resets)))
-                    (taken .location)
-                    (hold-from after (edgeState e s) (invariant a (after .location .0)) (range .invariants (after .location .0)) told holds);
+                allowed = allowed-from after (edgeState e s) told holds;
                 to = refl;
               },
             ),
@@ -153,18 +157,13 @@ module _ (a : Automaton) (range : InRange a) (d : ℕ) (pos : 1 ≤ d) where
 
 -- the start
 module _ (a : Automaton) (range : InRange a) (m : Moment) (at : AtStart m) where
-  start-holds : HoldsParts 1 (clockOf m) (invariant a (m .location .0)) → Allowed a 0 (zeros (a .clocks))
-  start-holds holds =
-      subst
-      (λ (l : ℕ). Allowed a l (zeros (a .clocks)))
-      (at .location)
-      (hold-from a range 1 (omega arith) m (startState a) (invariant a (m .location .0)) (range .invariants (m .location .0)) (start-tells a 1 m (range .clocks) at) holds)
-
   pub start-come : HoldsParts 1 (clockOf m) (invariant a (m .location .0)) → (d : ℕ) → ComeTo a d m
-  start-come holds d = (startState a, runs.start (start-holds holds), start-tells a d m (range .clocks) at)
+  start-come holds d = (
+    startState a,
+    runs.start (allowed-from a range 1 (omega arith) m (startState a) (start-tells a 1 m (range .clocks) at) holds),
+    start-tells a d m (range .clocks) at,
+  )
 
   pub start-fails : (HoldsParts 1 (clockOf m) (invariant a (m .location .0)) → ⊥) → (s : State) → Reached a s → ⊥
   start-fails not s reached =
-      not
-      (hold-to a range 1 (omega arith) m (startState a) (invariant a (m .location .0)) (range .invariants (m .location .0)) (start-tells a 1 m (range .clocks) at)
-      (subst (λ (l : ℕ). Allowed a l (zeros (a .clocks))) (sym (at .location)) (reached-start reached)))
+      not (allowed-to a range 1 (omega arith) m (startState a) (start-tells a 1 m (range .clocks) at) (reached-start reached))

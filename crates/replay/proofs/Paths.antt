@@ -3,11 +3,11 @@ use mathlib.Core.Path.{_≡_, refl, sym, _∙_, ap, subst}
 use mathlib.Core.Logic.{inl, inr}
 use mathlib.Core.Bool.{Bool, true, false, cond}
 use mathlib.Core.List.{List, [], _∷_, _++_}
-use mathlib.Core.Option.{Option, some, none}
-use Prim.Native.Nat.{ℕ, _+_, _^_, _≤_, _<_}
+use mathlib.Core.Option.{some, none}
+use Prim.Native.Nat.{ℕ, _+_, _≤_, _<_}
 use native.Mathlib.Omega.{arith}
 use Rattle.automata.specs.Automata.{nth, Edge, Automaton}
-use Rattle.automata.specs.Runs.{State, Holds, Allowed, resetAll, Reached, start}
+use Rattle.automata.specs.Runs.{State}
 use Rattle.regions.specs.Moves.{among}
 use Rattle.replay.specs.declared.moments.Move.{Move}
 use Rattle.replay.specs.declared.moments.Move.the-variants.{Wait, Step}
@@ -23,7 +23,7 @@ use Rattle.replay.specs.declared.moments.Fault.the-variants.{
   InvariantFails,
 }
 use Rattle.replay.specs.Meaning.{clockOf, Tells, ComeTo}
-use Rattle.replay.specs.Moves.{edgeState, startState, Makes, Path, Run}
+use Rattle.replay.specs.Moves.{edgeState, startState, Takes, Makes, Path, Run}
 use Rattle.replay.specs.Outcomes.{AtStart, After, Advanced, Fails, waits, Replayed, Refused}
 use Rattle.replay.proofs.Lists.{some-same, none≢some}
 use Rattle.replay.proofs.Moving.{reached-start}
@@ -123,6 +123,19 @@ module _ (a : Automaton) (d : ℕ) (ms ns : List Move) (m : Moment) (f : Followe
       let (u, before, (v, made, behind)) = path-split a d (startState a) ms (by ∷ ns) t (run .path) in
       never s v tells (subst (λ (x : State). Makes a d by x v) (path-same a d (startState a) ms u s before (ran .path)) made)
 
+  no-step : (i : ℕ) (e : Edge)
+      → nth (a .edges) i ≡ some e
+      → ((s u : State) → Tells (a .clocks) d m s → Takes a i e s u → ⊥)
+      → (t : State)
+      → Run a d (ms ++ (Step i ∷ ns)) t
+      → ⊥
+  no-step i e number never =
+      no-run
+      (Step i)
+      (λ s u tells made.
+      let same = some-same (nth (a .edges) i) (made .0) e (made .1 .number) number in
+      never s u tells (subst (λ (x : Edge). Takes a i x s u) same (made .1)))
+
   pub refused-at : (by : Move) (fault : Fault) → Fails a d m by fault → Refused a d (ms ++ (by ∷ ns)) fault
   refused-at (Wait k) NoDenominator h = h
   refused-at (Wait k) NoRoom (inl (i, small, h)) = omega (arith, f .clocks i small, f .time, waits-++ ms (Wait k ∷ ns))
@@ -137,18 +150,6 @@ module _ (a : Automaton) (d : ℕ) (ms ns : List Move) (m : Moment) (f : Followe
   refused-at (Step i) NotAllowedAtStart h = absurd h
   refused-at (Step i) NoSuchStep h = no-run (Step i) (λ s u tells made. none≢some (made .0) (sym h ∙ made .1 .number))
   refused-at (Step i) OtherPosition (e, number, h) =
-      no-run
-      (Step i)
-      (λ s u tells made.
-      h (ap (λ (x : Edge). x .source) (some-same (nth (a .edges) i) e (made .0) number (made .1 .number)) ∙ (made .1 .source ∙ sym (tells .location))))
-  refused-at (Step i) GuardFails (e, number, h) =
-      no-run
-      (Step i)
-      (λ s u tells made.
-      h s tells (subst (λ (x : Edge). Holds (x .guard) (s .valuation)) (some-same (nth (a .edges) i) (made .0) e (made .1 .number) number) (made .1 .guard)))
-  refused-at (Step i) InvariantFails (e, number, h) =
-      no-run
-      (Step i)
-      (λ s u tells made.
-      h s tells
-      (subst (λ (x : Edge). Allowed a (x .target) (resetAll (s .valuation) (x .resets))) (some-same (nth (a .edges) i) (made .0) e (made .1 .number) number) (made .1 .allowed)))
+      no-step i e number (λ s u tells made. h (made .source ∙ sym (tells .location)))
+  refused-at (Step i) GuardFails (e, number, h) = no-step i e number (λ s u tells made. h s tells (made .guard))
+  refused-at (Step i) InvariantFails (e, number, h) = no-step i e number (λ s u tells made. h s tells (made .allowed))

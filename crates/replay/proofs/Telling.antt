@@ -1,13 +1,12 @@
 -- A moment that tells a state tells, after a wait or an edge, the state after it.
-use mathlib.Core.Path.{_≡_, refl, sym, _∙_, ap}
+use mathlib.Core.Path.{refl, _∙_}
 use mathlib.Core.Bool.{Bool, true, false, cond}
-use mathlib.Core.List.{List, [], _∷_}
-use Prim.Native.Nat.{ℕ, zero, suc, pred, _+_, _*_, _≤_, _<_}
+use Prim.Native.Nat.{ℕ, zero, suc, _≤_, _<_}
 use native.Mathlib.Omega.{arith}
 use lib.ListN.{length}
-use Rattle.automata.specs.Times.{Time, zero-time, add}
+use Rattle.automata.specs.Times.{Time, zero-time}
 use Rattle.automata.specs.Automata.{Edge, Automaton}
-use Rattle.automata.specs.Runs.{State, valueOf, delayed, resetAll, zeros}
+use Rattle.automata.specs.Runs.{State, valueOf}
 use Rattle.regions.specs.Moves.{among}
 use Rattle.regions.specs.Points.{Is}
 use Rattle.regions.proofs.Orders.{is-add}

@@ -44,7 +44,7 @@ pub(crate) fn holds(conjunction: &Conjunction, denominator: u64, moment: &Moment
 {
     for place in 0..conjunction.len() {
         let Some(constraint) = conjunction.get(place) else {
-            return true;
+            return false;
         };
         let value = value_of(moment, constraint.clock);
         if !meets(constraint.relation, value, constraint.bound, denominator) {

@@ -1,5 +1,4 @@
 // Runs, followed move by move.
-ghost use mathlib.Core.Path.{_≡_};
 ghost use Prim.Native.Nat.{_≤_};
 ghost use Rattle.automata.specs.Automata as automata;
 ghost use Rattle.rows.specs.Views.{Views};

@@ -13,12 +13,14 @@ returns-in-Break-next c =
     rw
     (c .from-residual .ensures)
     (λ a views.
-    no-edge (a .edges) (c .loop .counter) (c .args .number) (c .next .last .self) (omega arith) (c .in-Break-next .ensures tt .steps (drop (c .loop .counter) (a .edges)) (c .loop .inv a views)))
+    no-edge (a .edges) (c .loop .counter) (c .args .number) (c .next .last .self) (omega arith)
+    (c .in-Break-next .ensures tt .steps (drop (c .loop .counter) (a .edges)) (c .loop .inv a views)))
 
 pub loop-again : need.loop-again
 loop-again c =
     λ a views.
-    other-edges (a .edges) (c .loop .counter) (c .in-Continue-next .field-0) (c .next .last .self) (c .in-Continue-next .ensures tt .steps (drop (c .loop .counter) (a .edges)) (c .loop .inv a views))
+    other-edges (a .edges) (c .loop .counter) (c .in-Continue-next .field-0) (c .next .last .self)
+    (c .in-Continue-next .ensures tt .steps (drop (c .loop .counter) (a .edges)) (c .loop .inv a views))
 
 pub returns : need.returns
 returns c =
@@ -27,4 +29,5 @@ returns c =
     subst
     (λ (n : ℕ). EdgeNumber (nth (a .edges) n) (c .next-2 .result))
     same
-    (this-edge (a .edges) (c .loop .counter) (c .next-2 .result) (c .next-2 .last .self) (c .next-2 .ensures .steps (drop (c .loop .counter) (a .edges)) (c .loop .inv a views)))
+    (this-edge (a .edges) (c .loop .counter) (c .next-2 .result) (c .next-2 .last .self)
+    (c .next-2 .ensures .steps (drop (c .loop .counter) (a .edges)) (c .loop .inv a views)))

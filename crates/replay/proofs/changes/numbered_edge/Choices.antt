@@ -1,5 +1,4 @@
 -- As many edges as turns are left out.
-use Prim.Native.Nat.{ℕ}
 use lib.ListN.{drop}
 use Rattle.automata.specs.Automata.{Automaton}
 use Rattle.rows.specs.Views.{Views, EdgesAre}

@@ -1,6 +1,6 @@
 -- A clock that is reset is 0 from then on.
-use mathlib.Core.Path.{_≡_, sym, _∙_}
-use Prim.Native.Nat.{ℕ, _<_}
+use mathlib.Core.Path.{sym, _∙_}
+use Prim.Native.Nat.{_<_}
 use lib.ListN.{getD}
 use native.Mathlib.Omega.{arith}
 use Rattle.replay.proofs.Resets.{one-reset, no-reset, resets-end}

@@ -1,11 +1,10 @@
 -- The first constraint that does not hold decides.
-use mathlib.Core.Path.{_≡_, sym, _∙_, ap, subst}
+use mathlib.Core.Path.{_≡_, subst}
 use mathlib.Core.List.{List}
 use mathlib.Core.Option.{some}
-use Prim.Native.Nat.{ℕ, _+_, _<_, _≤_}
+use Prim.Native.Nat.{ℕ}
 use native.Mathlib.Omega.{arith}
 use borrow.Author.Count.{below-more}
-use lib.ListN.{length}
 use Rattle.automata.specs.Automata.{nth, Constraint}
 use Rattle.rows.specs.Parts.{constraintIs}
 use Rattle.replay.specs.Checks.{MeetsParts}
@@ -31,8 +30,8 @@ asked d value cs j u c at same meets b at′ =
 
 pub returns-in-rest : need.returns-in-rest
 returns-in-rest c =
-    λ cs e.
-    absurd (omega (arith, none-behind cs (c .loop-place .place) (c .in-rest .ensures tt cs e), c .len-place-end .ensures cs e))
+    λ cs e all.
+    omega (arith, none-behind cs (c .loop-place .place) (c .in-rest .ensures tt cs e), c .len-place-end .ensures cs e)
 
 pub returns-then-not-meets : need.returns-then-not-meets
 returns-then-not-meets c =
@@ -46,7 +45,8 @@ loop-place-again c =
     (Asked (c .args .denominator) (clockOf (c .args .moment .now)) cs)
     (c .loop-place .place)
     (λ k h x. c .loop-place .inv cs e k x h)
-    (asked (c .args .denominator) (clockOf (c .args .moment .now)) cs (c .loop-place .place) (c .value-of-value .result) (constraintIs (c .in-Some .constraint)) (c .in-Some .ensures tt cs e) (c .value-of-value .ensures) (c .if-not-meets .ensures tt))
+    (asked (c .args .denominator) (clockOf (c .args .moment .now)) cs (c .loop-place .place)
+    (c .value-of-value .result) (constraintIs (c .in-Some .constraint)) (c .in-Some .ensures tt cs e) (c .value-of-value .ensures) (c .if-not-meets .ensures tt))
     j
     below
     b

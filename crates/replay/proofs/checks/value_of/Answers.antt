@@ -9,5 +9,7 @@ use Rattle.replay.proofs.checks.value_of.Needs as need
 
 pub returns-in-None : need.returns-in-None
 returns-in-None c =
-    let behind : false ≡ ltb (c .args .clock .0) (length (c .args .moment .now .clocks)) = c .in-None .ensures tt .finds .0 in
-    sym (getD-past (c .args .moment .now .clocks) (c .args .clock .0) 0 (ltb-false (c .args .clock .0) (length (c .args .moment .now .clocks)) (sym behind)))
+    let clock = c .args .clock .0 in
+    let clocks = c .args .moment .now .clocks in
+    let behind : false ≡ ltb clock (length clocks) = c .in-None .ensures tt .finds .0 in
+    sym (getD-past clocks clock 0 (ltb-false clock (length clocks) (sym behind)))

@@ -1,5 +1,5 @@
 -- The start is allowed if its checks hold over 1.
-use mathlib.Core.Path.{_≡_, refl}
+use mathlib.Core.Path.{refl}
 use lib.ListN.{replicate, getD-replicate}
 use Rattle.replay.specs.declared.moments.Moment.{Moment}
 use Rattle.replay.specs.Outcomes.{AtStart}

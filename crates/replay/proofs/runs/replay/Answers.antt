@@ -1,6 +1,6 @@
 -- The first move that is refused refuses the run.
-use mathlib.Core.Path.{_≡_, sym, subst}
-use mathlib.Core.List.{List, [], _∷_, _++_}
+use mathlib.Core.Path.{sym, subst}
+use mathlib.Core.List.{List}
 use Prim.Native.Nat.{ℕ, suc, _+_, _≤_, _<_}
 use native.Mathlib.Omega.{arith}
 use lib.ListN.{length, take, drop, getD}
@@ -13,7 +13,6 @@ use Rattle.replay.specs.declared.moments.Move.{Move}
 use Rattle.replay.specs.declared.moments.Move.the-variants.{Wait}
 use Rattle.replay.specs.declared.moments.Moment.{Moment}
 use Rattle.replay.specs.declared.moments.Fault.{Fault}
-use Rattle.replay.specs.declared.moments.Fault.the-variants.{NotAllowedAtStart}
 use Rattle.replay.specs.Moves.{startState}
 use Rattle.replay.specs.Outcomes.{Advanced, Fails, Replayed, Refused}
 use Rattle.replay.proofs.InRange.{reads-in-range}
@@ -78,14 +77,17 @@ returns-in-Break-moment-2 c =
     rw
     (p .1, p .2)
     (λ a views.
-    none-more a (c .args .denominator) (c .args .moves .now) (c .loop-next .next-index) (c .loop-next .moment) (c .in-Break-moment-2 .field-0 .0) (c .loop-next-test .taken) (c .loop-next .inv a views) (c .in-Break-moment-2 .ensures tt a views))
+    none-more a (c .args .denominator) (c .args .moves .now) (c .loop-next .next-index) (c .loop-next .moment)
+    (c .in-Break-moment-2 .field-0 .0) (c .loop-next-test .taken) (c .loop-next .inv a views) (c .in-Break-moment-2 .ensures tt a views))
 
 pub loop-next-again : need.loop-next-again
 loop-next-again c =
     λ a views.
-    one-more a (c .args .denominator) (c .args .moves .now) (c .loop-next .next-index) (c .loop-next .moment) (c .in-Continue-moment-2 .moment) (c .loop-next-test .taken) (c .loop-next .inv a views) (c .in-Continue-moment-2 .ensures tt a views)
+    one-more a (c .args .denominator) (c .args .moves .now) (c .loop-next .next-index) (c .loop-next .moment)
+    (c .in-Continue-moment-2 .moment) (c .loop-next-test .taken) (c .loop-next .inv a views) (c .in-Continue-moment-2 .ensures tt a views)
 
 pub returns : need.returns
 returns c =
     λ a views.
-    all-made a (c .args .denominator) (c .args .moves .now) (c .loop-next .next-index) (c .loop-next .moment) (omega arith) (c .loop-next-test .left) (c .loop-next .inv a views)
+    all-made a (c .args .denominator) (c .args .moves .now) (c .loop-next .next-index) (c .loop-next .moment)
+    (omega arith) (c .loop-next-test .left) (c .loop-next .inv a views)
