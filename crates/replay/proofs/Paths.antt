@@ -7,7 +7,7 @@ use mathlib.Core.Option.{some, none}
 use Prim.Native.Nat.{ℕ, _+_, _≤_, _<_}
 use native.Mathlib.Omega.{arith}
 use Rattle.automata.specs.Automata.{nth, Edge, Automaton}
-use Rattle.automata.specs.Runs.{State}
+use Rattle.automata.specs.Runs.{State, Reached, start, next}
 use Rattle.regions.specs.Moves.{among}
 use Rattle.replay.specs.declared.moments.Move.{Move}
 use Rattle.replay.specs.declared.moments.Move.the-variants.{Wait, Step}
@@ -26,7 +26,7 @@ use Rattle.replay.specs.Meaning.{clockOf, Tells, ComeTo}
 use Rattle.replay.specs.Moves.{edgeState, startState, Takes, Makes, Path, Run}
 use Rattle.replay.specs.Outcomes.{AtStart, After, Advanced, Fails, waits, Replayed, Refused}
 use Rattle.replay.proofs.Lists.{some-same, none≢some}
-use Rattle.replay.proofs.Moving.{reached-start}
+use Rattle.replay.proofs.Moving.{step-of, reached-start}
 use Rattle.replay.proofs.Telling.{start-tells}
 
 -- a move leads to one state only
@@ -62,16 +62,19 @@ waits-++ (Step i ∷ ms) ns = waits-++ ms ns
 
 -- the moves so far are a run to this moment, and no clock is ahead of the time
 pub record Followed (a : Automaton) (d : ℕ) (ms : List Move) (m : Moment) : Type 0 where
-  pub come : ComeTo a d m
-  pub run : (s : State) × Run a d ms s × Tells (a .clocks) d m s
+  pub run : (s : State) × Run a d ms s × Reached a s × Tells (a .clocks) d m s
   pub time : m .time ≡ waits ms
   pub clocks : (i : ℕ) → i < 8 → clockOf m i ≤ m .time
 
 pub followed-start : (a : Automaton) (d : ℕ) (m : Moment) → a .clocks ≤ 8 → AtStart m → ComeTo a d m → Followed a d [] m
 followed-start a d m few at (s, reached, tells) =
     record {
-      come = (s, reached, tells);
-      run = (startState a, record { start = reached-start reached; path = refl }, start-tells a d m few at);
+      run = (
+        startState a,
+        record { start = reached-start reached; path = refl },
+        start (reached-start reached),
+        start-tells a d m few at,
+      );
       time = at .time;
       clocks = λ i h. omega (arith, at .clocks i h);
     }
@@ -99,17 +102,23 @@ pub followed-on : (a : Automaton) (d : ℕ) (ms : List Move) (by : Move) (m afte
     → Advanced a d m by after
     → Followed a d (ms ++ (by ∷ [])) after
 followed-on a d ms by m after f h =
-    let (s, run, tells) = f .run in
+    let (s, run, reached, tells) = f .run in
     let (u, made, told) = h .makes s tells in
     record {
-      come = h .come (f .come);
-      run = (u, record { start = run .start; path = path-on a d (startState a) ms by s u (run .path) made }, told);
+      run = (
+        u,
+        record { start = run .start; path = path-on a d (startState a) ms by s u (run .path) made },
+        next reached (step-of a d by s u made),
+        told,
+      );
       time = omega (arith, after-time a by m after (h .moment), f .time, waits-++ ms (by ∷ []));
       clocks = after-clocks a by m after (h .moment) (f .clocks);
     }
 
 pub followed-all : (a : Automaton) (d : ℕ) (ms : List Move) (m : Moment) → 1 ≤ d → Followed a d ms m → Replayed a d ms m
-followed-all a d ms m pos f = record { denominator = pos; come = f .come; run = f .run; time = f .time }
+followed-all a d ms m pos f =
+    let (s, run, reached, tells) = f .run in
+    record { denominator = pos; run = f .run; come = (s, reached, tells); time = f .time }
 
 -- a move that cannot be made
 module _ (a : Automaton) (d : ℕ) (ms ns : List Move) (m : Moment) (f : Followed a d ms m) where
@@ -119,7 +128,7 @@ module _ (a : Automaton) (d : ℕ) (ms ns : List Move) (m : Moment) (f : Followe
       → Run a d (ms ++ (by ∷ ns)) t
       → ⊥
   no-run by never t run =
-      let (s, ran, tells) = f .run in
+      let (s, ran, reached, tells) = f .run in
       let (u, before, (v, made, behind)) = path-split a d (startState a) ms (by ∷ ns) t (run .path) in
       never s v tells (subst (λ (x : State). Makes a d by x v) (path-same a d (startState a) ms u s before (ran .path)) made)
 

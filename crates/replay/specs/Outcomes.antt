@@ -91,8 +91,8 @@ waits (Step i ∷ ms) = waits ms
 -- the moves are a run of the definitions, which ends at that location, with just these values of the clocks, at just that time
 pub record Replayed (a : Automaton) (d : ℕ) (moves : List Move) (m : Moment) : Type 0 where
   pub denominator : 1 ≤ d
+  pub run : (s : State) × Run a d moves s × Reached a s × Tells (a .clocks) d m s
   pub come : ComeTo a d m
-  pub run : (s : State) × Run a d moves s × Tells (a .clocks) d m s
   pub time : m .time ≡ waits moves
 
 -- why the moves are refused: but for the first two faults they are no run
