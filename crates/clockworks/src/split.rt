@@ -8,8 +8,8 @@ use crate::parts::Relation;
 use crate::parts::Step;
 use crate::parts::Test;
 use crate::rows::Unfit;
-use crate::rows::write_row;
 use crate::rows::UnfitFromRefused;
+use crate::rows::write_row;
 use std::alloc::Global;
 
 // The numbers of a row that are still to be read.
@@ -105,7 +105,11 @@ fn split_numbers(heap: Global, row: &[u32]) -> Result<Clockwork, Unfit> {
     let clocks = numbers.next()?;
     let positions = split_positions(heap, &mut numbers)?;
     let steps = split_steps(heap, &mut numbers)?;
-    Ok(Clockwork { clocks, positions, steps })
+    Ok(Clockwork {
+        clocks,
+        positions,
+        steps,
+    })
 }
 
 // The parts of the clockwork that has this row.

@@ -1,3 +1,2 @@
--- What the parts of a clockwork mean, and what a drawing gives.
-pub mod Meaning
+-- What a drawing gives.
 pub mod Drawn

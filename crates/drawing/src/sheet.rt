@@ -1,11 +1,11 @@
 // The parts of a clockwork are written as text. Clocks are named x0, x1, .., and positions p0, p1, ..
 use crate::errors::Sign;
 use crate::errors::SignDisplay;
-use crate::parts::Clockwork;
-use crate::parts::Position;
-use crate::parts::Relation;
-use crate::parts::Step;
-use crate::parts::Test;
+use clockworks::parts::Clockwork;
+use clockworks::parts::Position;
+use clockworks::parts::Relation;
+use clockworks::parts::Step;
+use clockworks::parts::Test;
 use std::alloc::Global;
 use std::fmt;
 
