@@ -1,9 +1,12 @@
 // Drawings that are read, refusals with their words, and rows that come back from their drawings.
-use super::*;
-use crate::errors::RefusalDebug;
-use crate::errors::RefusalDisplay;
-use crate::rows::UnfitDebug;
-use crate::rows::UnfitPartialEq;
+use clockworks::rows::Unfit;
+use clockworks::rows::UnfitDebug;
+use clockworks::rows::UnfitPartialEq;
+use drawing::draw;
+use drawing::errors::RefusalDebug;
+use drawing::errors::RefusalDisplay;
+use drawing::read;
+use std::alloc::Global;
 use std::test::*;
 
 const BELL: &str =
