@@ -1,2 +1,3 @@
 -- What a drawing gives.
 pub mod Drawn
+pub mod Sheets

@@ -1,0 +1,2 @@
+-- Lemmas on the text of a row.
+pub mod Lines
