@@ -55,10 +55,6 @@ pub tests-first : (word : List ℕ) (ts : List Test) (d : Test) → 1 ≤ length
 tests-first word [] d le = absurd (omega arith)
 tests-first word (t ∷ ts) d le = refl
 
-pub resets-none : (rs : List ℕ) → length rs ≡ 0 → resetsText rs ≡ []
-resets-none [] e = refl
-resets-none (r ∷ rs) e = absurd (omega arith)
-
 pub resets-some : (rs : List ℕ) → (length rs ≡ 0 → ⊥) → resetsText rs ≡ codes " reset" ++ eachClock rs
 resets-some [] ne = absurd (ne refl)
 resets-some (r ∷ rs) ne = refl

@@ -1,3 +1,3 @@
--- What a drawing gives.
-pub mod Drawn
+-- What a drawing gives, and what a row is drawn as.
 pub mod Sheets
+pub mod Drawn

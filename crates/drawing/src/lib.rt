@@ -1,9 +1,8 @@
 // The readable form of a timed automaton: a drawing of a clockwork is read into its row of numbers, and a row is drawn.
+ghost use Rattle.std.specs.Of.String.{string-bytes};
 ghost use Rattle.std.specs.Of.Vec.{vec-items, vec-len};
 ghost use Rattle.std.specs.Vec.{made};
-ghost use Rattle.automata.specs.Automata.{Automaton};
-ghost use Rattle.automata.specs.Rows.{Reads};
-ghost use Rattle.drawing.specs.Drawn.{Draws};
+ghost use Rattle.drawing.specs.Drawn.{Draws, DrawnAs};
 use crate::errors::Expected;
 use crate::errors::Found;
 use crate::errors::Place;
@@ -130,7 +129,7 @@ pub fn read(heap: Global, bytes: &[u8]) -> Result<Drawing, Refusal>
 
 // Draws a row: refuses one that is not the writing of an automaton. Tests show, and no proof, that to read the text gives the row again.
 pub fn draw(heap: Global, row: &[u32]) -> Result<String, Unfit>
-    ensures { λ r. ⌜ made r (λ _. (a : Automaton) × Reads (now (row .entry)) a) ⌝ }
+    ensures { λ r. ⌜ made r (λ t. DrawnAs (now (row .entry)) (string-bytes t)) ⌝ }
 {
     let clockwork = split_row(heap, row)?;
     Ok(sheet::write_sheet(heap, &clockwork)?)
