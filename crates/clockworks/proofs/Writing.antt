@@ -1,15 +1,14 @@
 -- A row that is written part by part: what one more part adds, and what a loop over the parts has come to.
 use mathlib.Core.Path.{_≡_, refl, sym, ap, subst, _∙_}
-use mathlib.Core.Bool.{Bool, true, false, _&&_}
+use mathlib.Core.Bool.{Bool, true, _&&_}
 use mathlib.Core.List.{List, [], _∷_, _++_, append-nil, append-assoc, map}
 use Prim.Native.Nat.{ℕ, _+_, _≤_, _<_}
-use native.Mathlib.Omega.{arith}
 use lib.Dec.{ltb, leb, T}
 use lib.ListN.{length, getD, take, length-map}
 use Rattle.std.specs.Of.Vec.{vec-items}
 use Rattle.std.proofs.shelf.Lists.{take-more, take-all}
 use Rattle.std.proofs.shelf.Tests.{and-from, and-parts, lt-ltb, le-leb}
-use Rattle.automata.specs.Rows.{Reads, write, upper, writeConstraints, writeInvariants, writeEdges, fineConstraint, fineGuard, fineInvariant, fineInvariants, fineResets, fineEdge, fineEdges}
+use Rattle.automata.specs.Rows.{Reads, write, upper, writeConstraints, fineConstraint, fineGuard, fineInvariant, fineInvariants, fineResets, fineEdge, fineEdges}
 use Rattle.clockworks.specs.declared.parts.Test.{Test}
 use Rattle.clockworks.specs.declared.parts.Position.{Position}
 use Rattle.clockworks.specs.declared.parts.Step.{Step}

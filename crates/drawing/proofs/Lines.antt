@@ -1,16 +1,14 @@
 -- A text that is written line by line: what a loop over tests, clocks, positions or steps has come to.
 use mathlib.Core.Path.{_≡_, refl, sym, ap, _∙_}
-use mathlib.Core.Bool.{Bool, true, _&&_}
+use mathlib.Core.Bool.{true}
 use mathlib.Core.List.{List, [], _∷_, _++_, append-nil, append-assoc, map}
-use Prim.Native.Nat.{ℕ, zero, suc, _+_, _≤_, _<_}
+use Prim.Native.Nat.{ℕ, suc, _+_, _≤_, _<_}
 use native.Mathlib.Numerals.{add-one}
 use native.Mathlib.Omega.{arith}
 use lib.ListN.{length, getD, drop}
-use Rattle.std.specs.Of.Vec.{vec-items}
 use Rattle.std.proofs.shelf.Lists.{at-drop-more, at-drop-all}
 use Rattle.clockworks.specs.declared.parts.Test.{Test}
 use Rattle.clockworks.specs.declared.parts.Position.{Position}
-use Rattle.clockworks.specs.declared.parts.Step.{Step}
 use Rattle.clockworks.specs.Meaning.{Adds, constraint, constraints, invariantOf, edge}
 use Rattle.clockworks.proofs.Writing.{Walk, adds-more, adds-same}
 use Rattle.drawing.specs.Sheets.{testText, moreTests, testsText, clockText, firstClocks, eachClock, resetsText, positionLine, positionLines, stepLine, stepLines}
@@ -39,9 +37,9 @@ pub left-more : {text next : List ℕ} (start : List ℕ) (ps : List Position) (
 left-more {text = text} {next = next} start ps i p lt is h one =
     let after = positionLines (suc i) (map invariantOf (drop (i + 1) ps)) in
     let step : positionLines i (map invariantOf (drop i ps)) ≡ positionLine i (invariantOf p) ++ after = at-drop-more (λ l. positionLines i (map invariantOf l)) ps i p lt ∙ ap (λ (q : Position). positionLine i (invariantOf q) ++ after) (sym is) in
-    record
-      { rest = ap (λ (k : ℕ). next ++ positionLines k (map invariantOf (drop (i + 1) ps))) (add-one i) ∙ (ap (λ (l : List ℕ). l ++ after) (one .longer) ∙ (append-assoc text (positionLine i (invariantOf p)) after ∙ (ap (λ (l : List ℕ). text ++ l) (sym step) ∙ h .rest)))
-      }
+    record {
+      rest = ap (λ (k : ℕ). next ++ positionLines k (map invariantOf (drop (i + 1) ps))) (add-one i) ∙ (ap (λ (l : List ℕ). l ++ after) (one .longer) ∙ (append-assoc text (positionLine i (invariantOf p)) after ∙ (ap (λ (l : List ℕ). text ++ l) (sym step) ∙ h .rest)));
+    }
 
 pub left-none : {text : List ℕ} (start : List ℕ) (ps : List Position) (i : ℕ) → length ps ≤ i → Left start ps i text → Adds start (positionLines 0 (map invariantOf ps)) text
 left-none {text = text} start ps i le h =

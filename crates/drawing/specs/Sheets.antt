@@ -1,7 +1,6 @@
 -- The text that a row is drawn as. Clocks are named x0, x1, .., and positions p0, p1, ..
 use mathlib.Core.List.{List, [], _∷_, _++_}
 use Prim.Native.Nat.{ℕ, zero, suc}
-use lib.ListN.{length}
 use lib.Chars.{codes}
 use Rattle.std.specs.Written.{decimal}
 use Rattle.automata.specs.Automata.{Relation, at-most, below, at-least, above, Constraint, Edge, Automaton}

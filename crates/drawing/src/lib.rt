@@ -94,6 +94,7 @@ fn finish(heap: Global, end: Place, names: Names, clockwork: &Clockwork) -> Resu
             expected,
         });
     }
+    // The lines that gave the names gave the parts, so this is never so.
     if clocks.len() != clockwork.clocks as usize || positions.len() != clockwork.positions.len() {
         return Err(Refusal::Wrong {
             place: end,

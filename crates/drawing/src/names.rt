@@ -1,4 +1,10 @@
 // The names of a drawing's clocks and positions, in the order of their numbers.
+ghost use mathlib.Core.Path.{_≡_};
+ghost use Prim.Native.Nat.{_<_};
+ghost use lib.ListN.{length};
+ghost use Rattle.std.specs.Of.String.{string-bytes};
+ghost use Rattle.std.specs.Slices.{found};
+ghost use Rattle.std.specs.shelf.Lists.{At};
 use crate::cursor::Cursor;
 use crate::errors::Expected;
 use crate::errors::Sign;
@@ -30,13 +36,13 @@ fn is_name(text: &str) -> bool {
 }
 
 // The number of a name.
-pub fn find(names: &[String], name: &str) -> Option<u32> {
-    let mut number = 0u32;
-    for known in names {
+pub fn find(names: &[String], name: &str) -> Option<u32>
+    ensures { λ r. ⌜ found r (λ i. (i < length (now (names .entry))) × At (λ s. string-bytes s ≡ now (name .entry)) (now (names .entry)) i) ⌝ }
+{
+    for (number, known) in names.iter().enumerate() {
         if known.as_str() == name {
-            return Some(number);
+            return u32::try_from(number).ok();
         }
-        number = number.saturating_add(1);
     }
     None
 }

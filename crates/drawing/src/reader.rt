@@ -1,4 +1,10 @@
 // A drawing is read line by line into the parts of a clockwork.
+ghost use mathlib.Core.Path.{_≡_};
+ghost use mathlib.Core.List.{_++_};
+ghost use Prim.Native.Nat.{_≤_};
+ghost use Rattle.std.specs.Of.Vec.{vec-items};
+ghost use Rattle.std.specs.Vec.{made};
+ghost use Rattle.drawing.specs.Comparisons.{testsOf};
 use crate::cursor::Cursor;
 use crate::errors::Expected;
 use crate::errors::Sign;
@@ -55,7 +61,9 @@ fn read_comparison(cursor: &mut Cursor, owner: Owner) -> Result<Comparison, Mist
     Ok(comparison)
 }
 
-fn read_bound(cursor: &mut Cursor) -> Result<u32, Mistake> {
+fn read_bound(cursor: &mut Cursor) -> Result<u32, Mistake>
+    ensures { λ r. ⌜ made r (λ bound. bound ≤ 10000) ⌝ }
+{
     let Some(text) = cursor.text() else {
         return Err(cursor.mistake(Expected::Bound));
     };
@@ -74,22 +82,27 @@ fn push_test(
     clock: u32,
     comparison: Comparison,
     bound: u32,
-) -> Result<(), Mistake> {
-    let (relation, also) = match comparison {
-        Comparison::One(relation) => (relation, false),
-        Comparison::Equal => (Relation::AtMost, true),
-    };
-    tests.push(Test {
-        clock,
-        relation,
-        bound,
-    })?;
-    if also {
-        tests.push(Test {
+) -> Result<(), Mistake>
+    ensures { λ r. ⌜ made r (λ _. vec-items (now (tests .exit)) ≡ vec-items (now (tests .entry)) ++ testsOf clock comparison bound) ⌝ }
+{
+    match comparison {
+        Comparison::One(relation) => tests.push(Test {
             clock,
-            relation: Relation::AtLeast,
+            relation,
             bound,
-        })?;
+        })?,
+        Comparison::Equal => {
+            tests.push(Test {
+                clock,
+                relation: Relation::AtMost,
+                bound,
+            })?;
+            tests.push(Test {
+                clock,
+                relation: Relation::AtLeast,
+                bound,
+            })?;
+        }
     }
     Ok(())
 }

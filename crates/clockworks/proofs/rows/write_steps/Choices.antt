@@ -1,7 +1,7 @@
 use mathlib.Core.List.{map}
 use Rattle.std.specs.Of.Vec.{vec-items}
-use Rattle.automata.specs.Rows.{writeConstraints, fineGuard, fineResets, fineInvariants, fineEdges}
-use Rattle.clockworks.specs.Meaning.{constraints, invariantOf, edge, positionsWords, stepsWords}
+use Rattle.automata.specs.Rows.{fineEdges}
+use Rattle.clockworks.specs.Meaning.{edge, stepsWords}
 use Rattle.clockworks.proofs.Writing.{Sofar}
 use Rattle.clockworks.proofs.rows.write_steps.Given as given
 

@@ -1,7 +1,6 @@
-use mathlib.Core.List.{map}
 use Rattle.std.specs.Of.Vec.{vec-items}
-use Rattle.automata.specs.Rows.{writeConstraints, fineGuard, fineResets, fineInvariants, fineEdges}
-use Rattle.clockworks.specs.Meaning.{constraints, invariantOf, edge, positionsWords, stepsWords}
+use Rattle.automata.specs.Rows.{writeConstraints, fineGuard}
+use Rattle.clockworks.specs.Meaning.{constraints}
 use Rattle.clockworks.proofs.Writing.{Sofar}
 use Rattle.clockworks.proofs.rows.write_tests.Given as given
 

@@ -1,4 +1,4 @@
-use mathlib.Core.Path.{refl, sym, ap}
+use mathlib.Core.Path.{refl, ap}
 use mathlib.Core.List.{_++_}
 use borrow.Author.Needs.{needs}
 use lib.Chars.{codes}
@@ -7,7 +7,7 @@ use Rattle.std.specs.Written.{decimal}
 use Rattle.clockworks.specs.Meaning.{Adds, constraints}
 use Rattle.clockworks.proofs.Writing.{adds-more, adds-same}
 use Rattle.drawing.specs.Sheets.{testsText}
-use Rattle.drawing.proofs.Lines.{Left, left-more, left-none}
+use Rattle.drawing.proofs.Lines.{left-more, left-none}
 use Rattle.drawing.proofs.sheet.write_positions.Needs as need
 
 pub loop-number-holds : need.loop-number-holds
