@@ -1,2 +1,2 @@
--- Lemmas on the writing of a row.
-pub mod Writing
+-- Lemmas on the text of a row.
+pub mod Lines

@@ -1,3 +1,4 @@
--- What the parts of a clockwork mean, and what a drawing gives.
-pub mod Meaning
+-- What a drawing gives, and what a row is drawn as.
+pub mod Sheets
 pub mod Drawn
+pub mod Comparisons

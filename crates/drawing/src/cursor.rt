@@ -1,14 +1,12 @@
-// A reader's place in a line: it takes the next word if that is what may stand there, and else refuses it.
+// A reader's place in a line: it takes the next word if that is what may stand there, and else it is a mistake.
 use crate::errors::Expected;
-use crate::errors::Found;
 use crate::errors::Place;
-use crate::errors::Refusal;
 use crate::errors::Sign;
 use crate::errors::SignPartialEq;
+use crate::mistakes::Mistake;
 use crate::words::Line;
 use crate::words::Token;
 use crate::words::Word;
-use std::alloc::Global;
 
 #[derive(Drop)]
 pub struct Cursor<'a> {
@@ -72,38 +70,26 @@ impl<'a> Cursor<'a> {
         here
     }
 
-    // The refusal of the next word, or of the line's end.
-    pub fn refuse(&self, heap: Global, expected: Expected) -> Refusal {
-        let line = self.line.number;
-        let Some(token) = self.line.tokens.get(self.at) else {
-            let column = self.line.end;
-            let found = Found::LineEnd;
-            return Refusal::Wrong {
-                place: Place { line, column },
-                found,
-                expected,
-            };
+    // Something else was expected here.
+    pub fn mistake(&self, expected: Expected) -> Mistake {
+        let column = match self.line.tokens.get(self.at) {
+            Some(token) => token.column,
+            None => self.line.end,
         };
-        let column = token.column;
-        let found = match &token.word {
-            Word::Sign(sign) => Found::Sign(*sign),
-            Word::Text(text) => match String::from_str(heap, text.as_str()) {
-                Ok(copy) => Found::Text(copy),
-                Err(_) => return Refusal::Memory,
+        Mistake::Word(
+            Place {
+                line: self.line.number,
+                column,
             },
-        };
-        Refusal::Wrong {
-            place: Place { line, column },
-            found,
             expected,
-        }
+        )
     }
 
-    pub fn expect_end(&self, heap: Global, expected: Expected) -> Result<(), Refusal> {
+    pub fn expect_end(&self, expected: Expected) -> Result<(), Mistake> {
         if self.at_end() {
             Ok(())
         } else {
-            Err(self.refuse(heap, expected))
+            Err(self.mistake(expected))
         }
     }
 }

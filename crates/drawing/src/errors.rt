@@ -1,9 +1,7 @@
 // Why a text is no drawing: where, what was found there, and what was expected.
-use crate::rows::Unfit;
-use crate::rows::UnfitDebug;
-use crate::rows::UnfitDisplay;
-use std::alloc::AllocError;
-use std::alloc::Refused;
+use clockworks::rows::Unfit;
+use clockworks::rows::UnfitDebug;
+use clockworks::rows::UnfitDisplay;
 use std::fmt;
 
 // Lines and columns count from 1, columns in characters.
@@ -71,18 +69,6 @@ pub enum Refusal {
         found: Found,
         expected: Expected,
     },
-}
-
-pub impl From<AllocError> for Refusal as RefusalFromAlloc {
-    fn from(_e: AllocError) -> Refusal {
-        Refusal::Memory
-    }
-}
-
-pub impl<T: Drop> From<Refused<T>> for Refusal as RefusalFromRefused {
-    fn from(_e: Refused<T>) -> Refusal {
-        Refusal::Memory
-    }
 }
 
 pub impl fmt::Display for Sign as SignDisplay {

@@ -1,34 +1,33 @@
 // The readable form of a timed automaton: a drawing of a clockwork is read into its row of numbers, and a row is drawn.
-ghost use lib.ListN.{length};
+ghost use Rattle.std.specs.Of.String.{string-bytes};
 ghost use Rattle.std.specs.Of.Vec.{vec-items, vec-len};
 ghost use Rattle.std.specs.Vec.{made};
-ghost use Rattle.automata.specs.Automata.{Automaton};
-ghost use Rattle.automata.specs.Rows.{Reads};
-ghost use Rattle.drawing.specs.Drawn.{Draws};
+ghost use Rattle.drawing.specs.Drawn.{Draws, DrawnAs};
 use crate::errors::Expected;
 use crate::errors::Found;
 use crate::errors::Place;
 use crate::errors::Refusal;
+use crate::mistakes::Mistake;
 use crate::names::Names;
-use crate::parts::Clockwork;
-use crate::rows::Unfit;
-use crate::rows::UnfitFromFmt;
+use crate::words::Line;
+use clockworks::parts::Clockwork;
+use clockworks::rows::Unfit;
+use clockworks::rows::UnfitFromFmt;
+use clockworks::rows::write_row;
+use clockworks::split::split_row;
 use std::alloc::Global;
 
 mod cursor;
 pub mod errors;
+mod explain;
+mod mistakes;
 mod names;
-pub mod parts;
 mod reader;
-pub mod rows;
 mod sheet;
-mod split;
-#[cfg(test)]
-mod tests;
 mod words;
 
 // A clockwork's row, with the names of its clocks and positions in the order of their numbers.
-#[derive(Debug, Drop)]
+#[derive(Drop)]
 pub struct Drawing {
     pub row: Vec<u32>,
     pub clocks: Vec<String>,
@@ -50,6 +49,7 @@ fn place_after(bytes: &[u8], count: usize) -> Place {
     Place { line, column }
 }
 
+// The text, without the mark that some editors put in front of it.
 fn as_text(bytes: &[u8]) -> Result<&str, Refusal> {
     match std::str::from_utf8(bytes) {
         Ok(text) => Ok(text.strip_prefix('\u{feff}').unwrap_or(text)),
@@ -59,6 +59,22 @@ fn as_text(bytes: &[u8]) -> Result<&str, Refusal> {
             expected: Expected::Utf8,
         }),
     }
+}
+
+fn read_words(heap: Global, bytes: &[u8]) -> Result<Vec<Line>, Refusal> {
+    match words::cut_lines(heap, as_text(bytes)?) {
+        Ok(lines) => Ok(lines),
+        Err(mistake) => {
+            let none = Vec::new(heap);
+            Err(explain::explain(heap, none.as_slice(), mistake))
+        }
+    }
+}
+
+fn read_parts(heap: Global, lines: &[Line]) -> Result<(Names, Clockwork), Mistake> {
+    let names = names::declare_all(heap, lines)?;
+    let clockwork = reader::read_lines(heap, &names, lines)?;
+    Ok((names, clockwork))
 }
 
 // The row of what was read, with its names.
@@ -71,13 +87,6 @@ fn finish(heap: Global, end: Place, names: Names, clockwork: &Clockwork) -> Resu
     } else {
         Expected::Positions
     };
-    if clocks.len() != clockwork.clocks as usize || positions.len() != clockwork.positions.len() {
-        return Err(Refusal::Wrong {
-            place: end,
-            found: Found::TextEnd,
-            expected,
-        });
-    }
     if clocks.is_empty() || positions.is_empty() {
         return Err(Refusal::Wrong {
             place: end,
@@ -85,7 +94,15 @@ fn finish(heap: Global, end: Place, names: Names, clockwork: &Clockwork) -> Resu
             expected,
         });
     }
-    match rows::write_row(heap, clockwork) {
+    // The lines that gave the names gave the parts, so this is never so.
+    if clocks.len() != clockwork.clocks as usize || positions.len() != clockwork.positions.len() {
+        return Err(Refusal::Wrong {
+            place: end,
+            found: Found::TextEnd,
+            expected,
+        });
+    }
+    match write_row(heap, clockwork) {
         Ok(row) => Ok(Drawing {
             row,
             clocks,
@@ -104,20 +121,17 @@ fn finish(heap: Global, end: Place, names: Names, clockwork: &Clockwork) -> Resu
 pub fn read(heap: Global, bytes: &[u8]) -> Result<Drawing, Refusal>
     ensures { λ r. ⌜ made r (λ d. Draws (vec-items (d .row)) (vec-len (d .clocks)) (vec-len (d .positions))) ⌝ }
 {
-    let lines = words::cut_lines(heap, as_text(bytes)?)?;
-    let names = names::declare_all(heap, lines.as_slice())?;
-    let clockwork = reader::read_lines(heap, &names, lines.as_slice())?;
-    finish(heap, place_after(bytes, bytes.len()), names, &clockwork)
+    let lines = read_words(heap, bytes)?;
+    match read_parts(heap, lines.as_slice()) {
+        Ok((names, clockwork)) => finish(heap, place_after(bytes, bytes.len()), names, &clockwork),
+        Err(mistake) => Err(explain::explain(heap, lines.as_slice(), mistake)),
+    }
 }
 
 // Draws a row: refuses one that is not the writing of an automaton. Tests show, and no proof, that to read the text gives the row again.
 pub fn draw(heap: Global, row: &[u32]) -> Result<String, Unfit>
-    ensures { λ r. ⌜ made r (λ _. (a : Automaton) × Reads (now (row .entry)) a) ⌝ }
+    ensures { λ r. ⌜ made r (λ t. DrawnAs (now (row .entry)) (string-bytes t)) ⌝ }
 {
-    let clockwork = split::split_row(heap, row)?;
-    let again = rows::write_row(heap, &clockwork)?;
-    if again.as_slice() != row {
-        return Err(Unfit::Other);
-    }
+    let clockwork = split_row(heap, row)?;
     Ok(sheet::write_sheet(heap, &clockwork)?)
 }

@@ -1,28 +1,25 @@
 // A line of a drawing is cut into its words: names, numbers and signs, with the column of each.
-use crate::errors::Expected;
-use crate::errors::Found;
 use crate::errors::Place;
-use crate::errors::Refusal;
-use crate::errors::RefusalFromAlloc;
-use crate::errors::RefusalFromRefused;
 use crate::errors::Sign;
-use crate::errors::SignDebug;
+use crate::mistakes::Mistake;
+use crate::mistakes::MistakeFromAlloc;
+use crate::mistakes::MistakeFromRefused;
 use std::alloc::Global;
 
-#[derive(Debug, Drop)]
+#[derive(Drop)]
 pub enum Word {
     Text(String),
     Sign(Sign),
 }
 
-#[derive(Debug, Drop)]
+#[derive(Drop)]
 pub struct Token {
     pub word: Word,
     pub column: usize,
 }
 
 // The words of a line, without its comment; `end` is the column past them.
-#[derive(Debug, Drop)]
+#[derive(Drop)]
 pub struct Line {
     pub number: usize,
     pub tokens: Vec<Token>,
@@ -32,7 +29,6 @@ pub struct Line {
 // What of a line has been cut. `text` is the name or number that is being read, and `start` its column.
 #[derive(Drop)]
 struct Cutter {
-    line: usize,
     tokens: Vec<Token>,
     text: String,
     start: usize,
@@ -42,14 +38,14 @@ fn belongs_to_text(c: char) -> bool {
     c.is_alphabetic() || c.is_ascii_digit() || c == '_' || c == '-'
 }
 
-fn push_sign(cutter: &mut Cutter, sign: Sign, column: usize) -> Result<(), Refusal> {
+fn push_sign(cutter: &mut Cutter, sign: Sign, column: usize) -> Result<(), Mistake> {
     let word = Word::Sign(sign);
     cutter.tokens.push(Token { word, column })?;
     Ok(())
 }
 
 // Ends the name or number that is being read, if there is one.
-fn end_text(cutter: &mut Cutter, heap: Global) -> Result<(), Refusal> {
+fn end_text(cutter: &mut Cutter, heap: Global) -> Result<(), Mistake> {
     if cutter.text.is_empty() {
         return Ok(());
     }
@@ -61,7 +57,7 @@ fn end_text(cutter: &mut Cutter, heap: Global) -> Result<(), Refusal> {
 }
 
 // A `=` right after `<` or `>` makes one sign with it.
-fn cut_equal(cutter: &mut Cutter, column: usize) -> Result<(), Refusal> {
+fn cut_equal(cutter: &mut Cutter, column: usize) -> Result<(), Mistake> {
     let Some(before) = cutter.tokens.pop() else {
         return push_sign(cutter, Sign::Equal, column);
     };
@@ -77,7 +73,7 @@ fn cut_equal(cutter: &mut Cutter, column: usize) -> Result<(), Refusal> {
 }
 
 // A `>` right after `-` makes an arrow with it, so no name takes that `-`.
-fn cut_above(cutter: &mut Cutter, heap: Global, column: usize) -> Result<(), Refusal> {
+fn cut_above(cutter: &mut Cutter, heap: Global, column: usize) -> Result<(), Mistake> {
     let arrow = cutter.text.as_str().ends_with('-');
     if !arrow {
         end_text(cutter, heap)?;
@@ -88,7 +84,8 @@ fn cut_above(cutter: &mut Cutter, heap: Global, column: usize) -> Result<(), Ref
     push_sign(cutter, Sign::Arrow, column.saturating_sub(1))
 }
 
-fn cut_character(cutter: &mut Cutter, heap: Global, c: char, column: usize) -> Result<(), Refusal> {
+fn cut_character(cutter: &mut Cutter, heap: Global, c: char, place: Place) -> Result<(), Mistake> {
+    let column = place.column;
     if belongs_to_text(c) {
         if cutter.text.is_empty() {
             cutter.start = column;
@@ -106,20 +103,12 @@ fn cut_character(cutter: &mut Cutter, heap: Global, c: char, column: usize) -> R
         ',' => push_sign(cutter, Sign::Comma, column),
         '<' => push_sign(cutter, Sign::Below, column),
         '=' => cut_equal(cutter, column),
-        _ => Err(Refusal::Wrong {
-            place: Place {
-                line: cutter.line,
-                column,
-            },
-            found: Found::Character(c),
-            expected: Expected::Character,
-        }),
+        _ => Err(Mistake::Character(place, c)),
     }
 }
 
-pub fn cut_line(heap: Global, number: usize, text: &str) -> Result<Line, Refusal> {
+fn cut_line(heap: Global, number: usize, text: &str) -> Result<Line, Mistake> {
     let mut cutter = Cutter {
-        line: number,
         tokens: Vec::new(heap),
         text: String::new(heap),
         start: 1,
@@ -129,12 +118,19 @@ pub fn cut_line(heap: Global, number: usize, text: &str) -> Result<Line, Refusal
         if c == '#' {
             break;
         }
-        cut_character(&mut cutter, heap, c, column)?;
+        cut_character(
+            &mut cutter,
+            heap,
+            c,
+            Place {
+                line: number,
+                column,
+            },
+        )?;
         column = column.saturating_add(1);
     }
     end_text(&mut cutter, heap)?;
     let Cutter {
-        line: _,
         tokens,
         text: _,
         start: _,
@@ -147,7 +143,7 @@ pub fn cut_line(heap: Global, number: usize, text: &str) -> Result<Line, Refusal
 }
 
 // The lines of a text that have words.
-pub fn cut_lines(heap: Global, text: &str) -> Result<Vec<Line>, Refusal> {
+pub fn cut_lines(heap: Global, text: &str) -> Result<Vec<Line>, Mistake> {
     let mut lines = Vec::new(heap);
     let mut number = 1usize;
     for text in text.lines() {

@@ -2,7 +2,7 @@ use mathlib.Core.Path.{_≡_, sym, _∙_}
 use native.Mathlib.Omega.{arith}
 use lib.ListN.{length, length-map}
 use Rattle.std.specs.Of.Vec.{vec-items, vec-len}
-use Rattle.drawing.specs.Meaning.{automaton, invariantOf}
+use Rattle.clockworks.specs.Meaning.{automaton, invariantOf}
 use Rattle.drawing.proofs.finish.Needs as need
 
 pub returns-in-Ok : need.returns-in-Ok

@@ -1,0 +1,2 @@
+-- Lemmas on the writing of a row.
+pub mod Writing

@@ -1,0 +1,2 @@
+-- What the parts of a clockwork mean.
+pub mod Meaning

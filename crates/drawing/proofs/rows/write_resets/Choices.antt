@@ -1,9 +1,0 @@
-use mathlib.Core.List.{map}
-use Rattle.std.specs.Of.Vec.{vec-items}
-use Rattle.automata.specs.Rows.{writeConstraints, fineGuard, fineResets, fineInvariants, fineEdges}
-use Rattle.drawing.specs.Meaning.{constraints, invariantOf, edge, positionsWords, stepsWords}
-use Rattle.drawing.proofs.Writing.{Sofar}
-use Rattle.drawing.proofs.rows.write_resets.Given as given
-
-abbrev pub Inv-loop-clock : given.InvT-loop-clock
-Inv-loop-clock l = Sofar (λ rs. rs) (fineResets (l .clocks)) (vec-items (l .entry .row)) (l .resets) (l .clock-index) (vec-items (l .row))

@@ -1,9 +1,0 @@
-use mathlib.Core.List.{map}
-use Rattle.std.specs.Of.Vec.{vec-items}
-use Rattle.automata.specs.Rows.{writeConstraints, fineGuard, fineResets, fineInvariants, fineEdges}
-use Rattle.drawing.specs.Meaning.{constraints, invariantOf, edge, positionsWords, stepsWords}
-use Rattle.drawing.proofs.Writing.{Sofar}
-use Rattle.drawing.proofs.rows.write_steps.Given as given
-
-abbrev pub Inv-loop-step : given.InvT-loop-step
-Inv-loop-step l = Sofar (stepsWords) (λ ss. fineEdges (l .clocks) (l .positions) (map edge ss)) (vec-items (l .entry .row)) (l .steps) (l .step-index) (vec-items (l .row))

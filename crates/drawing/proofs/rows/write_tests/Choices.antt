@@ -1,9 +1,0 @@
-use mathlib.Core.List.{map}
-use Rattle.std.specs.Of.Vec.{vec-items}
-use Rattle.automata.specs.Rows.{writeConstraints, fineGuard, fineResets, fineInvariants, fineEdges}
-use Rattle.drawing.specs.Meaning.{constraints, invariantOf, edge, positionsWords, stepsWords}
-use Rattle.drawing.proofs.Writing.{Sofar}
-use Rattle.drawing.proofs.rows.write_tests.Given as given
-
-abbrev pub Inv-loop-test : given.InvT-loop-test
-Inv-loop-test l = Sofar (λ ts. writeConstraints (constraints ts)) (λ ts. fineGuard (l .clocks) (constraints ts)) (vec-items (l .entry .row)) (l .tests) (l .test-index) (vec-items (l .row))
