@@ -5,7 +5,7 @@ use clockworks::rows::UnfitDisplay;
 use std::fmt;
 
 // Lines and columns count from 1, columns in characters.
-#[derive(Clone, Copy, Debug, PartialEq)]
+#[derive(Clone, Copy, Debug)]
 pub struct Place {
     pub line: usize,
     pub column: usize,
