@@ -121,13 +121,19 @@ pub impl fmt::Display for Expected as ExpectedDisplay {
             Expected::MoreNumbers => f.write_str("more numbers, since the row ends in the middle"),
             Expected::Clocks => f.write_str("1 to 8 clocks"),
             Expected::Positions => f.write_str("1 to 256 positions"),
-            Expected::Clock { clocks } => write!(f, "the number of one of {clocks} clocks, from 0 on"),
+            Expected::Clock { clocks } => write!(
+                f,
+                "the number of one of {clocks} clocks, from 0 on"
+            ),
             Expected::Relation => f.write_str("a relation: 0 for <=, 1 for <, 2 for >= or 3 for >"),
             Expected::UpperRelation => f.write_str(
                 "0 for <= or 1 for <, since a position bounds clocks only from above",
             ),
             Expected::Bound => f.write_str("a number from 0 to 10000 to compare a clock with"),
-            Expected::Position { positions } => write!(f, "the number of one of {positions} positions, from 0 on"),
+            Expected::Position { positions } => write!(
+                f,
+                "the number of one of {positions} positions, from 0 on"
+            ),
         }
     }
 }
@@ -137,7 +143,10 @@ pub impl<'a> fmt::Display for Report<'a> as ReportDisplay {
     fn fmt<W: fmt::Write>(&self, f: &mut fmt::Formatter<W>) -> fmt::Result {
         let source = self.source;
         match self.problem {
-            Problem::Memory | Problem::Drawing(Refusal::Memory) => write!(f, "{source}: not enough memory"),
+            Problem::Memory | Problem::Drawing(Refusal::Memory) => write!(
+                f,
+                "{source}: not enough memory"
+            ),
             Problem::Unreadable(error) => write!(f, "{source}: {error}"),
             Problem::Unwritable(error) => write!(f, "standard output: {error}"),
             Problem::TooLarge => write!(f, "{source}: the text is larger than {MOST_BYTES} bytes"),
@@ -150,7 +159,10 @@ pub impl<'a> fmt::Display for Report<'a> as ReportDisplay {
             } => {
                 let line = place.line;
                 let column = place.column;
-                write!(f, "{source}:{line}:{column}: found {found}, expected {expected}")
+                write!(
+                    f,
+                    "{source}:{line}:{column}: found {found}, expected {expected}"
+                )
             }
         }
     }

@@ -115,8 +115,14 @@ pub impl fmt::Display for Mistake as MistakeDisplay {
     fn fmt<W: fmt::Write>(&self, f: &mut fmt::Formatter<W>) -> fmt::Result {
         match self {
             Mistake::Unknown(word) => write!(f, "no option is called `{word}`")?,
-            Mistake::SecondFile(word) => write!(f, "`{word}` is a second file, and only one is read")?,
-            Mistake::SecondOutput(word) => write!(f, "`{word}` is a second thing to print, and only one is printed")?,
+            Mistake::SecondFile(word) => write!(
+                f,
+                "`{word}` is a second file, and only one is read"
+            )?,
+            Mistake::SecondOutput(word) => write!(
+                f,
+                "`{word}` is a second thing to print, and only one is printed"
+            )?,
         }
         f.write_str("; `earliest --help` shows the options")
     }
