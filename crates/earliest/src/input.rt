@@ -1,5 +1,6 @@
 // The text of a file or of standard input, of bounded length.
 ghost use Prim.Native.Nat.{_≤_};
+ghost use lib.ListN.{length};
 ghost use Rattle.std.specs.Of.Vec.{vec-len};
 ghost use Rattle.std.specs.Vec.{made};
 use crate::messages::Problem;
@@ -29,7 +30,9 @@ pub impl<'a> fmt::Display for Source<'a> as SourceDisplay {
     }
 }
 
-fn read_chunk(reader: &mut impl Read, chunk: &mut [u8]) -> Result<usize, Problem> {
+fn read_chunk(reader: &mut impl Read, chunk: &mut [u8]) -> Result<usize, Problem>
+    ensures { λ r. ⌜ made r (λ count. count ≤ length (now (chunk .entry))) ⌝ }
+{
     match reader.read(chunk) {
         Ok(count) => Ok(count),
         Err(error) => Err(Problem::Unreadable(error)),

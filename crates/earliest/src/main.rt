@@ -39,7 +39,14 @@ fn carry_out(rt: &LibcRuntime, options: &Options) -> Result<(), Problem> {
 
 // Whether all went well; where it did not, the reason has been told.
 fn run(rt: &LibcRuntime) -> io::Result<bool> {
-    match options::parse(env::args(rt)?) {
+    let words = match env::args(rt) {
+        Ok(words) => words,
+        Err(error) => {
+            eprintln!(rt, "earliest: the arguments cannot be read: {error}")?;
+            return Ok(false);
+        }
+    };
+    match options::parse(words) {
         Ok(Request::Help) => rt.print(messages::HELP)?,
         Ok(Request::Version) => rt.print(messages::VERSION)?,
         Ok(Request::Show(options)) => {

@@ -39,7 +39,7 @@ If this is the file bell.clock, then
 prints 1 2 1 0 0 3 0 0 1 1 0 3 2 1 0.
 
 Limits: 1 to 8 clocks, 1 to 256 positions, numbers up to 10000 in tests, 16384 numbers in a row,
-262144 bytes of text. What is larger is refused. All buffers together stay within 4 MiB.
+262144 bytes of text. What is larger is refused. With --rows, all buffers together stay within 4 MiB.
 
 The status is 0, or 1 with a message on standard error: FILE:LINE:COLUMN: what was found and expected.
 ";
@@ -107,7 +107,7 @@ pub impl fmt::Display for Found as FoundDisplay {
     fn fmt<W: fmt::Write>(&self, f: &mut fmt::Formatter<W>) -> fmt::Result {
         match self {
             Found::Word(word) => write!(f, "`{word}`"),
-            Found::Other => f.write_str("a word that is no number"),
+            Found::Other => f.write_str("something else"),
             Found::TextEnd => f.write_str("the end of the text"),
         }
     }
@@ -123,7 +123,7 @@ pub impl fmt::Display for Expected as ExpectedDisplay {
             Expected::Positions => f.write_str("1 to 256 positions"),
             Expected::Clock { clocks } => write!(
                 f,
-                "the number of one of {clocks} clocks, from 0 on"
+                "the number of a clock, which is below {clocks}"
             ),
             Expected::Relation => f.write_str("a relation: 0 for <=, 1 for <, 2 for >= or 3 for >"),
             Expected::UpperRelation => f.write_str(
@@ -132,7 +132,7 @@ pub impl fmt::Display for Expected as ExpectedDisplay {
             Expected::Bound => f.write_str("a number from 0 to 10000 to compare a clock with"),
             Expected::Position { positions } => write!(
                 f,
-                "the number of one of {positions} positions, from 0 on"
+                "the number of a position, which is below {positions}"
             ),
         }
     }

@@ -1,4 +1,6 @@
 // A row of numbers as text: decimal numbers with white space between them, and the place of each.
+ghost use Prim.Native.Nat.{_≤_};
+ghost use lib.ListN.{length};
 use crate::messages::Problem;
 use crate::messages::ProblemFromFmt;
 use drawing::errors::Place;
@@ -26,7 +28,10 @@ fn is_blank(byte: u8) -> bool {
 }
 
 // The first place from `at` on where white space stands, or else where there is none; or else the end.
-fn find_blank(bytes: &[u8], at: usize, blank: bool) -> usize {
+fn find_blank(bytes: &[u8], at: usize, blank: bool) -> usize
+    requires { ⌜ at ≤ length (now bytes) ⌝ }
+    ensures { λ r. ⌜ (at ≤ r) × (r ≤ length (now (bytes .entry))) ⌝ }
+{
     let mut place = at;
     while place < bytes.len() && is_blank(bytes[place]) != blank {
         place += 1;
@@ -35,7 +40,10 @@ fn find_blank(bytes: &[u8], at: usize, blank: bool) -> usize {
 }
 
 // The next word from a place on, as where it begins and ends. At the end of the text it is empty.
-fn next_word(bytes: &[u8], at: usize) -> (usize, usize) {
+fn next_word(bytes: &[u8], at: usize) -> (usize, usize)
+    requires { ⌜ at ≤ length (now bytes) ⌝ }
+    ensures { λ r. ⌜ (at ≤ r .0) × (r .0 ≤ r .1) × (r .1 ≤ length (now (bytes .entry))) ⌝ }
+{
     let start = find_blank(bytes, at, false);
     (start, find_blank(bytes, start, true))
 }
@@ -78,14 +86,16 @@ pub fn read(heap: Global, bytes: &[u8]) -> Result<Vec<u32>, Mistake> {
 }
 
 // Where a word begins and ends: both at the end of the text where there is no such word.
-pub fn find_word(bytes: &[u8], word: usize) -> (usize, usize) {
-    let (mut start, mut end) = next_word(bytes, 0);
+pub fn find_word(bytes: &[u8], word: usize) -> (usize, usize)
+    ensures { λ r. ⌜ (r .0 ≤ r .1) × (r .1 ≤ length (now (bytes .entry))) ⌝ }
+{
+    let (mut start, mut stop) = next_word(bytes, 0);
     for _ in 0..word.min(bytes.len()) {
-        let next = next_word(bytes, end);
+        let next = next_word(bytes, stop);
         start = next.0;
-        end = next.1;
+        stop = next.1;
     }
-    (start, end)
+    (start, stop)
 }
 
 // The line and column past the first `count` bytes: a byte that goes on with a character takes no column.
