@@ -5,7 +5,8 @@ use Prim.Native.Nat.{ℕ, _+_, _*_, _/_, _%_, _≤_, _<_}
 use native.Mathlib.Omega.{arith}
 use native.Mathlib.Decide.{decLt}
 use Rattle.regions.specs.Points.{heightOf}
-use Rattle.regions.proofs.Guards.{height-cases, compare-multiples}
+use Rattle.regions.proofs.Heights.{height-cases}
+use Rattle.regions.proofs.Multiples.{compared}
 use Rattle.cells.specs.declared.values.Cell.{Cell}
 use Rattle.squares.specs.Differences.{KeepsOver}
 use Rattle.squares.specs.Entries.{Consistent, between}
@@ -35,7 +36,7 @@ seen-inside top c g r seen h = omega (arith, height-cases top g r, seen .height)
 
 seen-beyond : (top : ℕ) (c : Cell) (g r d : ℕ) → r < d → Seen top c g r → 2 * top < c .height → d * top < d * g + r
 seen-beyond top c g r d b seen h =
-    omega (arith, height-cases top g r, seen .height, compare-multiples d g top, compare-multiples d top g)
+    omega (arith, height-cases top g r, seen .height, compared d g top)
 
 module _ (top d : ℕ) (c e : Cell) (g r h s : ℕ) (below-one : r < d) (below-one′ : s < d) where
   -- what is seen in two cells, in the order of their ranks, keeps the bound between them
@@ -159,8 +160,7 @@ module _ (top d : ℕ) (c : Cell) (g r : ℕ) (below-one : r < d) (consistent : 
                     arith,
                     height-cases top g r,
                     consistent .0,
-                    compare-multiples d g top,
-                    compare-multiples d top g,
+                    compared d g top,
                   );
               zero-rank = λ h. absurd (omega arith);
             }
@@ -195,10 +195,10 @@ module _ (top d : ℕ) (c : Cell) (g r : ℕ) (below-one : r < d) (consistent : 
     where
       between-multiples : (d g r m : ℕ) → r < d → d * g + r < d * m + d → d * m < d * g + r → (g ≡ m) × (0 < r)
       between-multiples d g r m b up down =
-          let same : g ≡ m = omega (arith, compare-multiples d g m, compare-multiples d m g) in
+          let same : g ≡ m = omega (arith, compared d g m) in
           (same, omega (arith, ap (λ (k : ℕ). d * k) same))
 
       at-multiple : (d g r m : ℕ) → r < d → d * g + r ≤ d * m → d * m ≤ d * g + r → (g ≡ m) × (r ≡ 0)
       at-multiple d g r m b up down =
-          let same : g ≡ m = omega (arith, compare-multiples d g m, compare-multiples d m g) in
+          let same : g ≡ m = omega (arith, compared d g m) in
           (same, omega (arith, ap (λ (k : ℕ). d * k) same))

@@ -12,7 +12,7 @@ use Rattle.automata.specs.Runs.{State}
 use Rattle.automata.specs.Regions.{clock}
 use Rattle.regions.specs.Cells.{Region}
 use Rattle.regions.specs.Points.{Point, On, Is, Reads, heightOf, Shows}
-use Rattle.regions.proofs.Guards.{height-cases}
+use Rattle.regions.proofs.Heights.{height-cases}
 use Rattle.regions.proofs.Grid.{point-of-state}
 use Rattle.regions.proofs.Likeness.{whole-is-age, no-fraction, less-fraction}
 use Rattle.squares.specs.declared.bounds.Bound.{Bound}
