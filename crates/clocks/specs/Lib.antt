@@ -1,0 +1,2 @@
+-- What an answer means.
+pub mod Asked
