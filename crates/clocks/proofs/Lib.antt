@@ -1,2 +1,1 @@
-pub mod OneAnswer
 pub mod Telling

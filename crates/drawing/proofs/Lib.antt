@@ -1,3 +1,2 @@
--- Lemmas on the text of a row, and on the sizes of parts.
+-- Lemmas on the text of a row.
 pub mod Lines
-pub mod Sizes

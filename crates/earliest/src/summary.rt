@@ -1,5 +1,5 @@
 // A clockwork in words: its clocks, its positions and its steps, by their names and numbers.
-use console::messages::Problem;
+use crate::messages::Problem;
 use drawing::Drawing;
 use rows::constraints::{Conjunction, Relation};
 use rows::edges::{Edge, Location};

@@ -9,7 +9,7 @@ use Rattle.rows.specs.declared.views.Automaton as view
 use Rattle.rows.specs.Parse.{Outcome, and_then, all_relations, parse_conjunction, parse_invariants, parse_resets, parse_edge, parse_edges, parse}
 use Rattle.rows.specs.Reading.{Wrong, Tells, ReadPost}
 use Rattle.rows.specs.Views.{Made, Views}
-use Rattle.rows.proofs.Round.{both, joined, complete, sound, rows_round, Written, written_invariants, written_edges}
+use Rattle.rows.proofs.Round.{both, joined, complete, sound, one_automaton, Written, written_invariants, written_edges}
 use Rattle.rows.proofs.Walking.{edge-resets, edge-read}
 
 -- an edge ends where its resets end
@@ -40,7 +40,7 @@ refused row f e w =
             omega arith,
         w,
       );
-      round = rows_round;
+      one = one_automaton;
     }
 
 and_false_right : (x y : Bool) → y ≡ false → (x && y) ≡ false
@@ -155,5 +155,5 @@ accepted row v css at es end h i j k l m e f made =
           },
         ),
       );
-      round = rows_round;
+      one = one_automaton;
     }

@@ -3,12 +3,12 @@ use Rattle.std.specs.Prelude.{◌≡◌, ℕ, suc, ◌+◌, ◌<◌, ◌≤◌, 
 use Rattle.std.proofs.Math.Option.{some, none}
 use Rattle.automata.specs.Automata as automata
 use Rattle.automata.specs.Rows.{Reads}
+use Rattle.automata.specs.Statements.{OneAutomaton}
 use Rattle.rows.specs.declared.refusals.Refusal.{Refusal}
 use Rattle.rows.specs.declared.refusals.Rule.{Rule}
 use Rattle.rows.specs.declared.refusals.Rule.TheVariants.{TooLong, Ends, Clocks, Locations, Clock, Relation, LowerBound, Bound, Location}
 use Rattle.rows.specs.declared.views.Automaton.{Automaton}
 use Rattle.rows.specs.Parse.{Outcome}
-use Rattle.rows.specs.Statements.{RowsRound}
 use Rattle.rows.specs.Views.{Views}
 
 -- what is wrong at the word
@@ -45,11 +45,11 @@ TellsEnd {A} parse row at (Ok end) = (v : A) × (rest : List ℕ) × (parse (dro
 TellsEnd parse row at (Err f) = (parse (drop at row) ≡ none) × Wrong row f.rule f.word
 
 -- an accepted row is the writing of the automaton that is viewed; a refused one is the writing of none, and the rule is broken
--- at the word
+-- at the word; and no row is the writing of two
 abbrev pub ReadCases : List ℕ → Result Automaton Refusal → Type 0
 ReadCases row (Ok v) = (v.row.now ≡ row) × ((a : automata.Automaton) × Views v a)
 ReadCases row (Err f) = ((a : automata.Automaton) → Reads row a → ⊥) × Wrong row f.rule f.word
 
 pub record ReadPost (row : List ℕ) (r : Result Automaton Refusal) : Type 0 where
   pub cases : ReadCases row r
-  pub round : RowsRound
+  pub one : OneAutomaton

@@ -1,4 +1,4 @@
-use Rattle.std.proofs.Common.{◌≡◌, List, [], ◌∷◌, ◌++◌, vec_items, sym, ap, ◌∙◌, append_assoc, rules}
+use Rattle.std.proofs.Common.{◌≡◌, List, [], ◌∷◌, ◌++◌, vec_items, sym, ap, ◌∙◌, append_assoc}
 use Rattle.drawing.specs.Comparisons.{tests_of}
 use Rattle.drawing.proofs.reader.push_test.Goals as goal
 
@@ -7,9 +7,5 @@ push-two {X = X} xs ys zs x y p q = q ∙ (ap (λ (l : List X). l ++ y ∷ []) p
 
 pub returns-in-ok-push-3 : goal.returns-in-ok-push-3
 returns-in-ok-push-3 c =
-    record {
-      items =
-          push-two _ _ _ _ _ c.in-ok-push-2.ensures.items c.in-ok-push-3.ensures.items
-          ∙ ap (λ k. vec_items c.args.tests.now ++ tests_of c.args.clock k c.args.bound) (sym c.in-Equal.is);
-      len = search rules;
-    }
+    push-two _ _ _ _ _ c.in-ok-push-2.ensures.items c.in-ok-push-3.ensures.items
+    ∙ ap (λ k. vec_items c.args.tests.now ++ tests_of c.args.clock k c.args.bound) (sym c.in-Equal.is)

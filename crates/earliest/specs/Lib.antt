@@ -1,3 +1,0 @@
--- What the promises of the program's functions cite.
-pub mod Arguments
-pub mod Listed

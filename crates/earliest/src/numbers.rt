@@ -1,0 +1,124 @@
+// A row of numbers as text: decimal numbers with white space between them, and the place of each.
+ghost use Rattle.std.specs.Prelude.{◌≤◌, length};
+
+use crate::messages::Problem;
+use drawing::errors::Place;
+use rows::reader::MOST_WORDS;
+use std::alloc::{AllocFailed, Global};
+use std::fmt::Write;
+
+// Why a text is no row of numbers. Words are counted from 0.
+#[derive(Clone, Copy)]
+pub enum Mistake {
+    Memory,
+    NoNumber(usize),
+    TooMany,
+}
+
+impl<T: Drop> From<AllocFailed<T>> for Mistake {
+    fn from(_e: AllocFailed<T>) -> Mistake {
+        Mistake::Memory
+    }
+}
+
+fn is_blank(byte: u8) -> bool {
+    byte == b' ' || (b'\t' <= byte && byte <= b'\r')
+}
+
+// The first place from `at` on where white space stands, or else where there is none; or else the end.
+fn find_blank(bytes: &[u8], at: usize, blank: bool) -> usize
+    requires { at ≤ length bytes.now }
+    ensures { (at ≤ result) × (result ≤ length bytes.now) }
+{
+    let mut place = at;
+    while place < bytes.len() && is_blank(bytes[place]) != blank {
+        place += 1;
+    }
+    place
+}
+
+// The next word from a place on, as where it begins and ends. At the end of the text it is empty.
+fn next_word(bytes: &[u8], at: usize) -> (usize, usize)
+    requires { at ≤ length bytes.now }
+    ensures { (at ≤ result.0) × (result.0 ≤ result.1) × (result.1 ≤ length bytes.now) }
+{
+    let start = find_blank(bytes, at, false);
+    (start, find_blank(bytes, start, true))
+}
+
+// One digit more, if the number still fits.
+fn push_digit(number: u32, byte: u8) -> Option<u32> {
+    if byte < b'0' || byte > b'9' {
+        return None;
+    }
+    number.checked_mul(10)?.checked_add(u32::from(byte - b'0'))
+}
+
+fn parse_number(word: &[u8]) -> Option<u32> {
+    let mut number = 0u32;
+    for byte in word {
+        number = push_digit(number, *byte)?;
+    }
+    Some(number)
+}
+
+// The numbers of the text.
+pub fn read(heap: Global, bytes: &[u8]) -> Result<Vec<u32>, Mistake> {
+    let mut numbers = Vec::new(heap);
+    let mut at = 0;
+    for count in 0..=MOST_WORDS {
+        let (start, end) = next_word(bytes, at);
+        if start >= bytes.len() {
+            return Ok(numbers);
+        }
+        if count == MOST_WORDS {
+            return Err(Mistake::TooMany);
+        }
+        let Some(number) = parse_number(&bytes[start..end]) else {
+            return Err(Mistake::NoNumber(count));
+        };
+        numbers.push(number)?;
+        at = end;
+    }
+    Ok(numbers)
+}
+
+// Where a word begins and ends: both at the end of the text where there is no such word.
+pub fn find_word(bytes: &[u8], word: usize) -> (usize, usize)
+    ensures { (result.0 ≤ result.1) × (result.1 ≤ length bytes.now) }
+{
+    let (mut start, mut stop) = next_word(bytes, 0);
+    for _ in 0..word.min(bytes.len()) {
+        let next = next_word(bytes, stop);
+        start = next.0;
+        stop = next.1;
+    }
+    (start, stop)
+}
+
+// The line and column past the first `count` bytes: a byte that goes on with a character takes no column.
+pub fn place_after(bytes: &[u8], count: usize) -> Place {
+    let mut line = 1usize;
+    let mut column = 1usize;
+    for byte in bytes.iter().take(count) {
+        if *byte == b'\n' {
+            line = line.saturating_add(1);
+            column = 1;
+        } else if *byte & 0xc0 != 0x80 {
+            column = column.saturating_add(1);
+        }
+    }
+    Place { line, column }
+}
+
+// The row as text: the numbers with a blank between them, and the end of the line.
+pub fn write(heap: Global, row: &[u32]) -> Result<String, Problem> {
+    let mut text = String::new(heap);
+    for (place, number) in row.iter().enumerate() {
+        text.write_str(if place == 0 { "" } else { " " })?;
+        let number = *number;
+        write!(text, "{number}")?;
+    }
+    text.write_str("\n")?;
+    Ok(text)
+}
