@@ -1,4 +1,6 @@
 // Runs and bounds on clocks as text.
+#![tactic(auto)]
+
 pub mod bounds;
 mod columns;
 mod fractions;

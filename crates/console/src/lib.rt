@@ -1,4 +1,6 @@
 // What the programs share: texts read and refused, positions by name, the budget of memory, and answers as text.
+#![tactic(auto)]
+
 pub mod answers;
 pub mod budget;
 pub mod input;

@@ -1,4 +1,6 @@
 // The readable form of a timed automaton: a drawing of a clockwork is read into its row of numbers, and a row is drawn.
+#![tactic(auto)]
+
 ghost use Rattle.std.specs.Prelude.{IfOk, vec_len, string_bytes};
 ghost use Rattle.drawing.specs.Drawn.{Draws, DrawnAs};
 

@@ -1,4 +1,6 @@
 // Reads a clockwork, as a drawing or as a row of numbers, and shows it.
+#![tactic(auto)]
+
 use crate::messages::{Problem, Report};
 use crate::options::{Options, Output, Request};
 use std::alloc::Global;

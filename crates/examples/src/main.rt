@@ -1,4 +1,6 @@
 // Asks about clockworks whose answers are known, and prints a table of the answers, with every difference.
+#![tactic(auto)]
+
 use crate::cases::{Case, Mistake};
 use crate::limits::Limit;
 use crate::report::{Report, Tally};

@@ -1,5 +1,7 @@
 // Runs gone through again: a list of waits and steps is followed by the definitions, with exact fractions over one
 // denominator, and accepted only if it is a run.
+#![tactic(auto)]
+
 mod changes;
 mod checks;
 pub mod fractions;

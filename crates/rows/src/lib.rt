@@ -1,5 +1,7 @@
 // Rows of numbers read as timed automata. `reader` accepts exactly the rows that are the writing of one; the parts of a row
 // that is read are lent, never copied.
+#![tactic(auto)]
+
 pub mod constraints;
 pub mod edges;
 pub mod reader;

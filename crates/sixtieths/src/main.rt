@@ -1,5 +1,7 @@
 // A second opinion on the answers of `clocks`: all states with clocks in sixtieths are gone through, for worked examples and
 // for automata made at random, and what is found there is held against the answers.
+#![tactic(auto)]
+
 use crate::opinions::WORK;
 use crate::trials::{AUTOMATA, SEED};
 use std::io;

@@ -1,4 +1,6 @@
 // Reads a clockwork, as a drawing or as a row of numbers, and shows a run that reaches a position as early as can be.
+#![tactic(auto)]
+
 use crate::options::{Options, Request};
 use crate::troubles::{Complaint, Trouble};
 use accounts::names::Names;
