@@ -8,9 +8,9 @@ loop-clock-init c = sofar_none (resets-walk c.args.clocks) _ _
 
 pub loop-clock-preserved : goal.loop-clock-preserved
 loop-clock-preserved c =
-    sofar_more (resets-walk c.args.clocks) _ _ _ _ _ _ 0 c.loop-clock-test.true refl c.loop-clock.invariant (record { longer = c.in-ok-push.ensures.items }) (lt-ltb _ _ c.if-clock-clocks.false)
+    sofar_more (resets-walk c.args.clocks) _ _ _ _ _ _ 0 c.loop-clock-test.true refl c.loop-clock.invariant (record { longer = c.in_ok-push.ensures.items }) (lt-ltb _ _ c.if-clock-clocks.false)
 
 pub returns : goal.returns
 returns c =
     let all = sofar_all (resets-walk c.args.clocks) _ _ _ _ c.loop-clock-test.false c.loop-clock.invariant in
-    (adds_more c.in-ok-write-count.ensures all.0, all.1)
+    (adds_more c.in_ok-write_count.ensures all.0, all.1)

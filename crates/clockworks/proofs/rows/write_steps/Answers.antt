@@ -6,7 +6,7 @@ loop-step-init c = sofar_none (steps_walk c.args.clocks c.args.positions) _ _
 
 pub loop-step-preserved : goal.loop-step-preserved
 loop-step-preserved c =
-    let told = c.in-ok-write-step.ensures in
+    let told = c.in_ok-write_step.ensures in
     sofar_more (steps_walk c.args.clocks c.args.positions) _ _ _ _ _ _ _ c.loop-step-test.true c.step-item.is c.loop-step.invariant told.0 told.1
 
 pub returns : goal.returns

@@ -9,5 +9,5 @@ use Rattle.std.proofs.lemmas.Bool.Decides.{Decides-eqb}
 pub returns : goal.returns
 returns c =
     let told = c.if-ne.ensures in
-    let same : c.as-slice.result.now ≡ c.args.row.now = (slice_eq-Decides Decides-eqb _ _ told.0 told.1).0 (not-false told.0 (sym told.2)) in
-    subst (λ l. Reads l (automaton c.in-ok-clockwork.clockwork)) (sym c.as-slice.ensures.value ∙ same) c.in-ok-again.ensures
+    let same : c.as_slice.result.now ≡ c.args.row.now = (slice_eq-Decides Decides-eqb _ _ told.0 told.1).0 (not-false told.0 (sym told.2)) in
+    subst (λ l. Reads l (automaton c.in-ok-clockwork.clockwork)) (sym c.as_slice.ensures.value ∙ same) c.in-ok-again.ensures
