@@ -6,4 +6,4 @@ pub returns : goal.returns
 returns c =
     let count : c.len-positions.result ≡ length (vec_items c.args.clockwork.now.positions) = omega (arith, c.args.clockwork.now.positions.ok.0) in
     let short : length (vec_items c.write_steps.new.row) ≤ 16384 = omega (arith, c.write_steps.new.row.ok.0) in
-    row_reads c.args.clockwork.now c.len-positions.result _ _ c.new-row.ensures.items c.as_slice.ensures.value c.as_slice-2.ensures.value count (omega arith, omega arith) (omega arith, omega arith) (record { longer = c.in-ok-push.ensures.items }) c.in-ok-write-count.ensures c.in-ok-write-positions.ensures c.in-ok-write-steps.ensures short
+    row_reads c.args.clockwork.now c.len-positions.result _ _ c.new-row.ensures.items c.as_slice.ensures.value c.as_slice-2.ensures.value count (omega arith, omega arith) (omega arith, omega arith) (record { longer = c.in_ok-push.ensures.items }) c.in_ok-write_count.ensures c.in_ok-write_positions.ensures c.in_ok-write_steps.ensures short
