@@ -32,26 +32,26 @@ returns-then-at-row c =
       further = tt;
     }
 
-pub returns-in-err-guard : goal.returns-in-err-guard
-returns-in-err-guard c =
+pub returns-in_err-guard : goal.returns-in_err-guard
+returns-in_err-guard c =
     rw
-    c.from-residual.ensures
+    c.from_residual.ensures
     (record {
       part =
           λ e rest h.
-          c.in-err-guard.ensures.part e.guard (afterGuard e rest) (ends c.args.row.now c.args.at e rest h).2;
+          c.in_err-guard.ensures.part e.guard (afterGuard e rest) (ends c.args.row.now c.args.at e rest h).2;
       further = tt;
     })
 
-pub returns-in-err-resets : goal.returns-in-err-resets
-returns-in-err-resets c =
+pub returns-in_err-resets : goal.returns-in_err-resets
+returns-in_err-resets c =
     rw
-    c.from-residual-in-err-resets.ensures
+    c.from_residual-in_err-resets.ensures
     (record {
       part =
           λ e rest h.
-          let guard = c.in-ok-guard.ensures.part e.guard (afterGuard e rest) (ends c.args.row.now c.args.at e rest h).2 in
-          c.in-err-resets.ensures.part e.resets rest guard.1;
+          let guard = c.in_ok-guard.ensures.part e.guard (afterGuard e rest) (ends c.args.row.now c.args.at e rest h).2 in
+          c.in_err-resets.ensures.part e.resets rest guard.1;
       further = tt;
     })
 
@@ -61,14 +61,14 @@ returns c =
       part =
           λ e rest h.
           let two = ends c.args.row.now c.args.at e rest h in
-          let guard = c.in-ok-guard.ensures.part e.guard (afterGuard e rest) two.2 in
-          let resets = c.in-ok-resets.ensures.part e.resets rest guard.1 in (
+          let guard = c.in_ok-guard.ensures.part e.guard (afterGuard e rest) two.2 in
+          let resets = c.in_ok-resets.ensures.part e.resets rest guard.1 in (
             record { source = two.0; target = two.1; guard = guard.0; resets = resets.0 },
             resets.1,
             resets.2,
           );
       further =
-          let guard = c.in-ok-guard.ensures.further in
-          let resets = c.in-ok-resets.ensures.further in
+          let guard = c.in_ok-guard.ensures.further in
+          let resets = c.in_ok-resets.ensures.further in
           (omega (arith, guard, resets), resets.1);
     }

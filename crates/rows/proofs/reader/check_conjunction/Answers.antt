@@ -18,10 +18,10 @@ loop-init c = (
   rw sub-zero (conjunction_starts c.args.clocks c.args.relations c.args.row.now c.args.at c.if-at-row.false),
 )
 
-pub returns-in-err-next : goal.returns-in-err-next
-returns-in-err-next c =
-    let p = err_from_is_err_and c.from-residual.result c.from-residual.ensures.1 in
-    let e = c.in-err-next.ensures in
+pub returns-in_err-next : goal.returns-in_err-next
+returns-in_err-next c =
+    let p = err_from_is_err_and c.from_residual.result c.from_residual.ensures.1 in
+    let e = c.in_err-next.ensures in
     rw
     (p.1, p.2) (
       none_more (parse_constraints c.args.clocks c.args.relations) _ c.loop.counter (drop c.loop.next c.args.row.now) c.loop.invariant.2 c.loop-test.true e.0,
@@ -30,10 +30,10 @@ returns-in-err-next c =
 
 pub loop-preserved : goal.loop-preserved
 loop-preserved c =
-    let e = c.in-ok-next.ensures in (
+    let e = c.in_ok-next.ensures in (
       omega (arith, e.0, c.loop.invariant.0),
       e.1,
-      one_more (parse_constraints c.args.clocks c.args.relations) _ c.loop.counter (drop c.loop.next c.args.row.now) c.loop.invariant.2 (drop c.in-ok-next.next c.args.row.now) c.loop-test.true e.2,
+      one_more (parse_constraints c.args.clocks c.args.relations) _ c.loop.counter (drop c.loop.next c.args.row.now) c.loop.invariant.2 (drop c.in_ok-next.next c.args.row.now) c.loop-test.true e.2,
     )
 
 pub returns : goal.returns

@@ -22,8 +22,8 @@ returns-then-row-at c =
       omega arith,
     )
 
-pub returns-then-row-at-ge-ALL-RELATIONS : goal.returns-then-row-at-ge-ALL-RELATIONS
-returns-then-row-at-ge-ALL-RELATIONS c =
+pub returns-then-row-at-ge-ALL_RELATIONS : goal.returns-then-row-at-ge-ALL_RELATIONS
+returns-then-row-at-ge-ALL_RELATIONS c =
     let room : c.args.at + 3 ≤ length c.args.row.now = omega arith in
     let unfit : c.args.relations ≤ get_or c.args.row.now (c.args.at + 1) 0 = omega arith in (
       constraint-relation c.args.clocks c.args.relations c.args.row.now c.args.at room c.if-row-at.false unfit,
@@ -37,10 +37,10 @@ returns-then-row-at-2 c =
       omega arith,
     )
 
-pub returns-then-row-at-gt-MOST-BOUND : goal.returns-then-row-at-gt-MOST-BOUND
-returns-then-row-at-gt-MOST-BOUND c =
+pub returns-then-row-at-gt-MOST_BOUND : goal.returns-then-row-at-gt-MOST_BOUND
+returns-then-row-at-gt-MOST_BOUND c =
     let room : c.args.at + 3 ≤ length c.args.row.now = omega arith in (
-      constraint-bound c.args.clocks c.args.relations c.args.row.now c.args.at room c.if-row-at.false c.if-row-at-2.false c.if-row-at-gt-MOST-BOUND.true,
+      constraint-bound c.args.clocks c.args.relations c.args.row.now c.args.at room c.if-row-at.false c.if-row-at-2.false c.if-row-at-gt-MOST_BOUND.true,
       omega arith,
     )
 
@@ -50,5 +50,5 @@ returns c =
     let word : ℕ → ℕ = λ i. get_or c.args.row.now (c.args.at + i) 0 in
     let fit
     : fits c.args.clocks c.args.relations (get_or c.args.row.now c.args.at 0) (word 1) (word 2) ≡ true =
-    fits-from c.args.clocks c.args.relations (get_or c.args.row.now c.args.at 0) (word 1) (word 2) c.if-row-at.false c.if-row-at-2.false c.if-row-at-gt-MOST-BOUND.false in
+    fits-from c.args.clocks c.args.relations (get_or c.args.row.now c.args.at 0) (word 1) (word 2) c.if-row-at.false c.if-row-at-2.false c.if-row-at-gt-MOST_BOUND.false in
     (omega arith, room, constraint-fits c.args.clocks c.args.relations c.args.row.now c.args.at room fit)

@@ -29,11 +29,11 @@ returns-then-row-at-2 c =
       omega arith,
     )
 
-pub returns-in-err-guard-end : goal.returns-in-err-guard-end
-returns-in-err-guard-end c =
+pub returns-in_err-guard_end : goal.returns-in_err-guard_end
+returns-in_err-guard_end c =
     let room : c.args.at + 2 ≤ length c.args.row.now = omega arith in
-    let p = err_from_is_err_and c.from-residual.result c.from-residual.ensures.1 in
-    let e = c.in-err-guard-end.ensures in
+    let p = err_from_is_err_and c.from_residual.result c.from_residual.ensures.1 in
+    let e = c.in_err-guard_end.ensures in
     rw
     (p.1, p.2) (
       edge-guard c.args.clocks c.args.locations c.args.row.now c.args.at room c.if-row-at.false c.if-row-at-2.false e.0,
@@ -43,5 +43,5 @@ returns-in-err-guard-end c =
 pub returns : goal.returns
 returns c =
     let room : c.args.at + 2 ≤ length c.args.row.now = omega arith in
-    let e = c.in-ok-guard-end.ensures in
-    edge-tells c.args.clocks c.args.locations c.args.row.now c.args.at c.in-ok-guard-end.guard-end e.2.0 c.check-resets.result room c.if-row-at.false c.if-row-at-2.false (omega (arith, e.0)) e.2.1 c.check-resets.ensures
+    let e = c.in_ok-guard_end.ensures in
+    edge-tells c.args.clocks c.args.locations c.args.row.now c.args.at c.in_ok-guard_end.guard_end e.2.0 c.check_resets.result room c.if-row-at.false c.if-row-at-2.false (omega (arith, e.0)) e.2.1 c.check_resets.ensures

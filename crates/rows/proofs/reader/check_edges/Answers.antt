@@ -7,10 +7,10 @@ use Rattle.rows.proofs.reader.check_edges.Goals as goal
 pub loop-next-init : goal.loop-next-init
 loop-next-init c = (omega arith, leads_refl _)
 
-pub returns-in-err-next : goal.returns-in-err-next
-returns-in-err-next c =
-    let p = err_from_is_err_and c.from-residual.result c.from-residual.ensures.1 in
-    let e = c.in-err-next.ensures in
+pub returns-in_err-next : goal.returns-in_err-next
+returns-in_err-next c =
+    let p = err_from_is_err_and c.from_residual.result c.from_residual.ensures.1 in
+    let e = c.in_err-next.ensures in
     let some_left : 0 < length (drop c.loop-next.next c.args.row.now) = simp length-drop (omega arith) in
     rw
     (p.1, p.2) (
@@ -20,10 +20,10 @@ returns-in-err-next c =
 
 pub loop-next-preserved : goal.loop-next-preserved
 loop-next-preserved c =
-    let e = c.in-ok-next.ensures in
+    let e = c.in_ok-next.ensures in
     let some_left : 0 < length (drop c.loop-next.next c.args.row.now) = simp length-drop (omega arith) in (
       e.1,
-      leads_trans (edges_more c.args.clocks c.args.locations (drop c.loop-next.next c.args.row.now) (drop c.in-ok-next.next c.args.row.now) e.2.0 some_left e.2.1) c.loop-next.invariant.1,
+      leads_trans (edges_more c.args.clocks c.args.locations (drop c.loop-next.next c.args.row.now) (drop c.in_ok-next.next c.args.row.now) e.2.0 some_left e.2.1) c.loop-next.invariant.1,
     )
 
 pub returns : goal.returns

@@ -16,4 +16,4 @@ returns c =
     let at : ℕ = 3 * c.args.place in
     let there : nth cs c.args.place ≡ some (constraint (get_or ws at 0) (get_or ws (at + 1) 0) (get_or ws (at + 2) 0)) =
     subst (λ (z : List ℕ). nth cs c.args.place ≡ some (constraint (get_or z at 0) (get_or z (at + 1) 0) (get_or z (at + 2) 0))) (sym e) (constraint-at cs c.args.place (omega (arith, ap length e ∙ length-constraints cs))) in
-    there ∙ ap (λ (r : Relation). some (record { clock = get_or ws at 0; relation = r; bound = get_or ws (at + 2) 0 })) (sym c.decode-relation.ensures)
+    there ∙ ap (λ (r : Relation). some (record { clock = get_or ws at 0; relation = r; bound = get_or ws (at + 2) 0 })) (sym c.decode_relation.ensures)

@@ -31,27 +31,27 @@ returns-then-location-self c = λ a views. nth-behind a.invariants c.args.locati
 pub loop-init : goal.loop-init
 loop-init c = λ a views. ap (drop 2) (sym views.reads.written)
 
-pub returns-in-err-end : goal.returns-in-err-end
-returns-in-err-end c =
+pub returns-in_err-end : goal.returns-in_err-end
+returns-in_err-end c =
     λ a views.
     let t = there c.args.self.now a c.loop.at c.loop.counter views (omega arith) (c.loop.invariant a views) in
-    absurd (c.in-err-end.ensures.part t.0 _ t.2)
+    absurd (c.in_err-end.ensures.part t.0 _ t.2)
 
 pub loop-preserved : goal.loop-preserved
 loop-preserved c =
     λ a views.
     let t = there c.args.self.now a c.loop.at c.loop.counter views (omega arith) (c.loop.invariant a views) in
-    (c.in-ok-end.ensures.part t.0 _ t.2).1
+    (c.in_ok-end.ensures.part t.0 _ t.2).1
 
-pub returns-in-err-conjunction : goal.returns-in-err-conjunction
-returns-in-err-conjunction c =
+pub returns-in_err-conjunction : goal.returns-in_err-conjunction
+returns-in_err-conjunction c =
     λ a views.
     let t = there c.args.self.now a c.loop.at c.loop.counter views (omega arith) (c.loop.invariant a views) in
-    absurd (c.in-err-conjunction.ensures.part t.0 _ t.2)
+    absurd (c.in_err-conjunction.ensures.part t.0 _ t.2)
 
 pub returns : goal.returns
 returns c =
     λ a views.
     let t = there c.args.self.now a c.loop.at c.loop.counter views (omega arith) (c.loop.invariant a views) in
     let same : c.loop.counter ≡ c.args.location.0 = omega arith in
-    (t.0, subst (λ (z : ℕ). nth a.invariants z ≡ some t.0) same t.1, (c.in-ok-conjunction.ensures.part t.0 _ t.2).0)
+    (t.0, subst (λ (z : ℕ). nth a.invariants z ≡ some t.0) same t.1, (c.in_ok-conjunction.ensures.part t.0 _ t.2).0)

@@ -26,10 +26,10 @@ some-edge s t v (x ∷ es) part same h i e =
 
 pub returns : goal.returns
 returns c =
-    let f = c.in-ok-edge.ensures.further in
+    let f = c.in_ok-edge.ensures.further in
     record {
       steps =
           λ es e.
-          some-edge c.args.self.now (record { row = c.args.self.now.row; at = c.in-ok-edge.end }) c.in-ok-edge.edge es c.in-ok-edge.ensures.part refl f.0 f.1 e;
+          some-edge c.args.self.now (record { row = c.args.self.now.row; at = c.in_ok-edge.end }) c.in_ok-edge.edge es c.in_ok-edge.ensures.part refl f.0 f.1 e;
       goes = firm ((tt, tt, omega (arith, f))) (λ h. search rules);
     }
