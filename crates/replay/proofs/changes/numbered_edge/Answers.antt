@@ -5,19 +5,19 @@ use Rattle.replay.specs.Changes.{EdgeNumber}
 use Rattle.replay.proofs.Numbered.{no_edge, other_edges, this_edge}
 use Rattle.replay.proofs.changes.numbered_edge.Goals as goal
 
-pub returns-in-err-next : goal.returns-in-err-next
-returns-in-err-next c =
+pub returns-in_err-next : goal.returns-in_err-next
+returns-in_err-next c =
     rw
-    c.from-residual.ensures
+    c.from_residual.ensures
     (λ a views.
     no_edge a.edges c.loop.counter c.args.number c.next.new.self (omega arith)
-    (c.in-err-next.ensures.steps (drop c.loop.counter a.edges) (c.loop.invariant a views)))
+    (c.in_err-next.ensures.steps (drop c.loop.counter a.edges) (c.loop.invariant a views)))
 
 pub loop-preserved : goal.loop-preserved
 loop-preserved c =
     λ a views.
-    other_edges a.edges c.loop.counter c.in-ok-next.field-0 c.next.new.self
-    (c.in-ok-next.ensures.steps (drop c.loop.counter a.edges) (c.loop.invariant a views))
+    other_edges a.edges c.loop.counter c.in_ok-next.field-0 c.next.new.self
+    (c.in_ok-next.ensures.steps (drop c.loop.counter a.edges) (c.loop.invariant a views))
 
 pub returns : goal.returns
 returns c =

@@ -12,17 +12,17 @@ returns-then-denominator-eq0 c =
       coprime = λ h. absurd (omega arith);
     }
 
-pub nonzero-div-result : goal.nonzero-div-result
-nonzero-div-result c =
-    divisor_positive c.args.numerator c.args.denominator c.greatest-common-divisor-divisor.result
-    (omega arith) c.greatest-common-divisor-divisor.ensures
+pub nonzero_div-result : goal.nonzero_div-result
+nonzero_div-result c =
+    divisor_positive c.args.numerator c.args.denominator c.greatest_common_divisor-divisor.result
+    (omega arith) c.greatest_common_divisor-divisor.ensures
 
-pub nonzero-div-result-2 : goal.nonzero-div-result-2
-nonzero-div-result-2 c =
-    divisor_positive c.args.numerator c.args.denominator c.greatest-common-divisor-divisor.result
-    (omega arith) c.greatest-common-divisor-divisor.ensures
+pub nonzero_div-result-2 : goal.nonzero_div-result-2
+nonzero_div-result-2 c =
+    divisor_positive c.args.numerator c.args.denominator c.greatest_common_divisor-divisor.result
+    (omega arith) c.greatest_common_divisor-divisor.ensures
 
 pub returns : goal.returns
 returns c =
-    in_lowest_terms c.args.numerator c.args.denominator c.greatest-common-divisor-divisor.result
-    (omega arith) c.greatest-common-divisor-divisor.ensures
+    in_lowest_terms c.args.numerator c.args.denominator c.greatest_common_divisor-divisor.result
+    (omega arith) c.greatest_common_divisor-divisor.ensures

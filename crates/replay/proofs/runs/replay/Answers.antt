@@ -49,13 +49,13 @@ all_made : (a : Automaton) (d : ℕ) (ms : List Move) (i : ℕ) (m : Moment)
 all_made a d ms i m pos h f =
     followed_all a d ms m pos (subst (λ (ns : List Move). Followed a d ns m) (take_all i ms h) f)
 
-pub returns-in-err-moment : goal.returns-in-err-moment
-returns-in-err-moment c =
-    let p = err_from_is_err_and c.from-residual.result c.from-residual.ensures.1 in
+pub returns-in_err-moment : goal.returns-in_err-moment
+returns-in_err-moment c =
+    let p = err_from_is_err_and c.from_residual.result c.from_residual.ensures.1 in
     rw
     (p.1, p.2)
     (λ a views.
-    let (fault, none) = c.in-err-moment.ensures a views in
+    let (fault, none) = c.in_err-moment.ensures a views in
     subst
     (λ (f : Fault). Refused a c.args.denominator c.args.moves.now f)
     (sym fault)
@@ -64,23 +64,23 @@ returns-in-err-moment c =
 pub loop-next-init : goal.loop-next-init
 loop-next-init c =
     λ a views.
-    let (at, come) = c.in-ok-moment.ensures a views in
-    followed_start a c.args.denominator c.in-ok-moment.moment (reads_in_range views.reads).clocks at (come c.args.denominator)
+    let (at, come) = c.in_ok-moment.ensures a views in
+    followed_start a c.args.denominator c.in_ok-moment.moment (reads_in_range views.reads).clocks at (come c.args.denominator)
 
-pub returns-in-err-moment-2 : goal.returns-in-err-moment-2
-returns-in-err-moment-2 c =
-    let p = err_from_is_err_and c.from-residual-in-err-moment-2.result c.from-residual-in-err-moment-2.ensures.1 in
+pub returns-in_err-moment-2 : goal.returns-in_err-moment-2
+returns-in_err-moment-2 c =
+    let p = err_from_is_err_and c.from_residual-in_err-moment-2.result c.from_residual-in_err-moment-2.ensures.1 in
     rw
     (p.1, p.2)
     (λ a views.
     none_more a c.args.denominator c.args.moves.now c.loop-next.next-index c.loop-next.moment
-    c.in-err-moment-2.field-0.0 c.loop-next-test.true (c.loop-next.invariant a views) (c.in-err-moment-2.ensures a views))
+    c.in_err-moment-2.field-0.0 c.loop-next-test.true (c.loop-next.invariant a views) (c.in_err-moment-2.ensures a views))
 
 pub loop-next-preserved : goal.loop-next-preserved
 loop-next-preserved c =
     λ a views.
     one_more a c.args.denominator c.args.moves.now c.loop-next.next-index c.loop-next.moment
-    c.in-ok-moment-2.moment c.loop-next-test.true (c.loop-next.invariant a views) (c.in-ok-moment-2.ensures a views)
+    c.in_ok-moment-2.moment c.loop-next-test.true (c.loop-next.invariant a views) (c.in_ok-moment-2.ensures a views)
 
 pub returns : goal.returns
 returns c =

@@ -74,7 +74,7 @@ returns-then-not-allowed c =
     λ a views.
     let found = c.in-Some.ensures a views in
     target-fault a (reads_in_range views.reads) c.args.denominator c.requires c.args.number c.in-Some.edge
-    c.args.moment.now found c.with-resets.result c.with-resets.ensures
+    c.args.moment.now found c.with_resets.result c.with_resets.ensures
     (c.if-not-allowed.ensures a views)
 
 pub returns : goal.returns
@@ -82,7 +82,7 @@ returns c =
     λ a views.
     let found = c.in-Some.ensures a views in
     edge-taken a (reads_in_range views.reads) c.args.denominator c.requires c.args.number c.in-Some.edge
-    c.args.moment.now found c.with-resets.result c.with-resets.ensures
+    c.args.moment.now found c.with_resets.result c.with_resets.ensures
     c.if-edge-moment.false
     (c.if-not-holds.ensures found.0.guard found.2.guard)
     (c.if-not-allowed.ensures a views)
