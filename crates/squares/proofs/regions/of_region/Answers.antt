@@ -19,13 +19,13 @@ loop-j-preserved c =
           c.args.region.now
           c.loop-i.i
           c.loop-j.j
-          w.cell-at.result
-          w.cell-at-else-i-j.result
-          w.bound-between.result
+          w.cell_at.result
+          w.cell_at-else-i-j.result
+          w.bound_between.result
           w.if-i-j.false
-          w.cell-at.ensures
-          w.cell-at-else-i-j.ensures
-          w.bound-between.ensures
+          w.cell_at.ensures
+          w.cell_at-else-i-j.ensures
+          w.bound_between.ensures
     ] in (
       length-set _ _ _ ∙ c.loop-j.invariant.0,
       next_rows
@@ -81,6 +81,6 @@ returns c =
     c.loop-i.bounds
     c.loop-i.i
     (omega arith)
-    (c.if-not-has-consistent-cells.ensures.0 tt)
+    (c.if-not-has_consistent_cells.ensures.0 tt)
     c.loop-i-test.false
     c.loop-i.invariant.1
