@@ -4,8 +4,7 @@ ghost use Rattle.clockworks.specs.Meaning.{relation_of, constraint, constraints,
 ghost use Rattle.drawing.specs.Sheets.{sign_text, test_text, tests_text, clocks_line, resets_text, position_lines, step_line, step_lines, sheet_of};
 
 use clockworks::parts::{Clockwork, Position, Relation, Step, Test};
-use std::alloc::Global;
-use std::fmt;
+use std::alloc::{AllocError, Global};
 
 fn sign(relation: Relation) -> &'static str
     ensures { result.now ≡ sign_text (relation_of relation) }
@@ -19,7 +18,7 @@ fn sign(relation: Relation) -> &'static str
 }
 
 // A test after a word.
-fn write_test(sheet: &mut String, word: &str, test: Test) -> fmt::Result
+fn write_test(sheet: &mut String, word: &str, test: Test) -> Result<(), AllocError>
     ensures { OnOk result (Adds (string_bytes sheet.old) (test_text word.now (constraint test)) (string_bytes sheet.new)) }
 {
     let clock = test.clock;
@@ -29,7 +28,7 @@ fn write_test(sheet: &mut String, word: &str, test: Test) -> fmt::Result
 }
 
 // Tests with commas between them, after a word.
-fn write_tests(sheet: &mut String, word: &str, tests: &[Test]) -> fmt::Result
+fn write_tests(sheet: &mut String, word: &str, tests: &[Test]) -> Result<(), AllocError>
     ensures { OnOk result (Adds (string_bytes sheet.old) (tests_text word.now (constraints tests.now)) (string_bytes sheet.new)) }
 {
     if tests.is_empty() {
@@ -43,7 +42,7 @@ fn write_tests(sheet: &mut String, word: &str, tests: &[Test]) -> fmt::Result
     Ok(())
 }
 
-fn write_resets(sheet: &mut String, resets: &[u32]) -> fmt::Result
+fn write_resets(sheet: &mut String, resets: &[u32]) -> Result<(), AllocError>
     ensures { OnOk result (Adds (string_bytes sheet.old) (resets_text resets.now) (string_bytes sheet.new)) }
 {
     if resets.is_empty() {
@@ -57,7 +56,7 @@ fn write_resets(sheet: &mut String, resets: &[u32]) -> fmt::Result
     Ok(())
 }
 
-fn write_clocks(sheet: &mut String, clocks: u32) -> fmt::Result
+fn write_clocks(sheet: &mut String, clocks: u32) -> Result<(), AllocError>
     ensures { OnOk result (Adds (string_bytes sheet.old) (clocks_line clocks) (string_bytes sheet.new)) }
 {
     write!(sheet, "clocks")?;
@@ -68,7 +67,7 @@ fn write_clocks(sheet: &mut String, clocks: u32) -> fmt::Result
     Ok(())
 }
 
-fn write_positions(sheet: &mut String, positions: &[Position]) -> fmt::Result
+fn write_positions(sheet: &mut String, positions: &[Position]) -> Result<(), AllocError>
     ensures { OnOk result (Adds (string_bytes sheet.old) (position_lines 0 (map invariant_of positions.now)) (string_bytes sheet.new)) }
 {
     for (number, position) in positions.iter().enumerate() {
@@ -79,7 +78,7 @@ fn write_positions(sheet: &mut String, positions: &[Position]) -> fmt::Result
     Ok(())
 }
 
-fn write_step(sheet: &mut String, step: &Step) -> fmt::Result
+fn write_step(sheet: &mut String, step: &Step) -> Result<(), AllocError>
     ensures { OnOk result (Adds (string_bytes sheet.old) (step_line (edge step.now)) (string_bytes sheet.new)) }
 {
     let source = step.source;
@@ -91,7 +90,7 @@ fn write_step(sheet: &mut String, step: &Step) -> fmt::Result
     Ok(())
 }
 
-fn write_steps(sheet: &mut String, steps: &[Step]) -> fmt::Result
+fn write_steps(sheet: &mut String, steps: &[Step]) -> Result<(), AllocError>
     ensures { OnOk result (Adds (string_bytes sheet.old) (step_lines (map edge steps.now)) (string_bytes sheet.new)) }
 {
     for step in steps {
@@ -100,7 +99,7 @@ fn write_steps(sheet: &mut String, steps: &[Step]) -> fmt::Result
     Ok(())
 }
 
-pub fn write_sheet(heap: Global, clockwork: &Clockwork) -> Result<String, fmt::Error>
+pub fn write_sheet(heap: Global, clockwork: &Clockwork) -> Result<String, AllocError>
     ensures { IfOk result (λ t. string_bytes t ≡ sheet_of (automaton clockwork.now)) }
 {
     let mut sheet = String::new(heap);

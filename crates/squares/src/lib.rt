@@ -2,5 +2,5 @@
 #![tactic(auto)]
 
 pub mod bounds;
-pub mod regions;
+pub mod shapes;
 pub mod squares;

@@ -10,7 +10,7 @@ use console::answers::{write_answer, write_line};
 use console::messages::Problem;
 use rows::edges::Location;
 use rows::views::Automaton;
-use squares::regions::of_region;
+use squares::shapes::of_region;
 use std::alloc::Global;
 use std::fmt;
 use std::fmt::Write;

@@ -11,8 +11,8 @@ loop-number-init c = record { rest = refl }
 pub loop-number-preserved : goal.loop-number-preserved
 loop-number-preserved c =
     let start : Adds (string_bytes c.loop-number.sheet) (codes "position p" ++ decimal c.loop-number.number-counter) (string_bytes c.write.new.self) = search rules in
-    let end : Adds (string_bytes c.write-tests.new.sheet) (codes "\n") (string_bytes c.write-in-loop-number.new.self) = search rules in
-    let tests = adds_same (ap (λ l. tests_text (codes ":") (constraints l)) c.as-slice.ensures.value) c.in-ok-write-tests.ensures in
+    let end : Adds (string_bytes c.write_tests.new.sheet) (codes "\n") (string_bytes c.write-in-loop-number.new.self) = search rules in
+    let tests = adds_same (ap (λ l. tests_text (codes ":") (constraints l)) c.as_slice.ensures.value) c.in_ok-write_tests.ensures in
     left-more _ _ _ _ c.loop-number-test.true c.index-positions-number.is c.loop-number.invariant (adds_more start (adds_more tests end))
 
 pub returns : goal.returns

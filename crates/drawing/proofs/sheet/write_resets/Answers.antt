@@ -16,6 +16,6 @@ loop-clock-preserved c =
 pub returns : goal.returns
 returns c =
     let start : Adds (string_bytes c.args.sheet.now) (codes " reset") (string_bytes c.write.new.self) = search rules in
-    let some : length c.args.resets.now ≡ 0 → ⊥ = λ e. omega (arith, false-eqb _ 0 c.if-is-empty.ensures) in
+    let some : length c.args.resets.now ≡ 0 → ⊥ = λ e. omega (arith, false-eqb _ 0 c.if-is_empty.ensures) in
     let rest = (sofar_all clocks_walk _ _ _ _ c.loop-clock-test.false c.loop-clock.invariant).0 in
     adds_same (sym (resets-some _ some)) (adds_more start rest)

@@ -6,6 +6,6 @@ use Rattle.drawing.proofs.sheet.write_sheet.Goals as goal
 
 pub returns : goal.returns
 returns c =
-    let positions = adds_same (ap (λ l. position_lines 0 (map invariant_of l)) c.as-slice.ensures.value) c.in-ok-write-positions.ensures in
-    let steps = adds_same (ap (λ l. step_lines (map edge l)) c.as-slice-2.ensures.value) c.in-ok-write-steps.ensures in
-    (adds_more c.in-ok-write-clocks.ensures (adds_more positions steps)).longer ∙ ap (λ (l : List ℕ). l ++ sheet_of (automaton c.args.clockwork.now)) c.new-sheet.ensures.bytes
+    let positions = adds_same (ap (λ l. position_lines 0 (map invariant_of l)) c.as_slice.ensures.value) c.in_ok-write_positions.ensures in
+    let steps = adds_same (ap (λ l. step_lines (map edge l)) c.as_slice-2.ensures.value) c.in_ok-write_steps.ensures in
+    (adds_more c.in_ok-write_clocks.ensures (adds_more positions steps)).longer ∙ ap (λ (l : List ℕ). l ++ sheet_of (automaton c.args.clockwork.now)) c.new-sheet.ensures.bytes

@@ -7,7 +7,7 @@ use Rattle.drawing.proofs.sheet.write_step.Goals as goal
 pub returns : goal.returns
 returns c =
     let start : Adds (string_bytes c.args.sheet.now) (codes "step p" ++ (decimal c.args.step.now.source ++ (codes " -> p" ++ decimal c.args.step.now.target))) (string_bytes c.write.new.self) = search rules in
-    let end : Adds (string_bytes c.write-resets.new.sheet) (codes "\n") (string_bytes c.write-2.new.self) = search rules in
-    let tests = adds_same (ap (λ l. tests_text (codes " when") (constraints l)) c.as-slice.ensures.value) c.in-ok-write-tests.ensures in
-    let resets = adds_same (ap resets_text c.as-slice-2.ensures.value) c.in-ok-write-resets.ensures in
+    let end : Adds (string_bytes c.write_resets.new.sheet) (codes "\n") (string_bytes c.write-2.new.self) = search rules in
+    let tests = adds_same (ap (λ l. tests_text (codes " when") (constraints l)) c.as_slice.ensures.value) c.in_ok-write_tests.ensures in
+    let resets = adds_same (ap resets_text c.as_slice-2.ensures.value) c.in_ok-write_resets.ensures in
     adds_more start (adds_more tests (adds_more resets end))

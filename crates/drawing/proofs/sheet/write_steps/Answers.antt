@@ -8,7 +8,7 @@ loop-step-init c = sofar_none steps_walk _ _
 
 pub loop-step-preserved : goal.loop-step-preserved
 loop-step-preserved c =
-    sofar_more steps_walk _ _ _ _ _ _ _ c.loop-step-test.true c.step-item.is c.loop-step.invariant c.in-ok-write-step.ensures refl
+    sofar_more steps_walk _ _ _ _ _ _ _ c.loop-step-test.true c.step-item.is c.loop-step.invariant c.in_ok-write_step.ensures refl
 
 pub returns : goal.returns
 returns c = (sofar_all steps_walk _ _ _ _ c.loop-step-test.false c.loop-step.invariant).0

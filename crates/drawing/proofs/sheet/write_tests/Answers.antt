@@ -11,15 +11,15 @@ loop-test-init c = sofar_none tests_walk _ _
 
 pub loop-test-preserved : goal.loop-test-preserved
 loop-test-preserved c =
-    sofar_more tests_walk _ _ _ _ _ _ _ c.loop-test-test.true refl c.loop-test.invariant c.in-ok-write-test-2.ensures refl
+    sofar_more tests_walk _ _ _ _ _ _ _ c.loop-test-test.true refl c.loop-test.invariant c.in_ok-write_test-2.ensures refl
 
-pub returns-then-is-empty : goal.returns-then-is-empty
-returns-then-is-empty c =
-    let none : length c.args.tests.now < 1 = omega (arith, true-eqb _ 0 c.if-is-empty.ensures) in
+pub returns-then-is_empty : goal.returns-then-is_empty
+returns-then-is_empty c =
+    let none : length c.args.tests.now < 1 = omega (arith, true-eqb _ 0 c.if-is_empty.ensures) in
     adds_same (sym (tests_none _ _ none)) adds_none
 
 pub returns : goal.returns
 returns c =
-    let some : 1 ≤ length c.args.tests.now = omega (arith, false-eqb _ 0 c.if-is-empty.ensures) in
+    let some : 1 ≤ length c.args.tests.now = omega (arith, false-eqb _ 0 c.if-is_empty.ensures) in
     let rest = (sofar_all tests_walk _ _ _ _ c.loop-test-test.false c.loop-test.invariant).0 in
-    adds_same (sym (tests_first _ _ _ some)) (adds_more c.in-ok-write-test.ensures (adds_same (ap (λ l. more_tests (constraints l)) (take_rest c.args.tests.now 1)) rest))
+    adds_same (sym (tests_first _ _ _ some)) (adds_more c.in_ok-write_test.ensures (adds_same (ap (λ l. more_tests (constraints l)) (take_rest c.args.tests.now 1)) rest))

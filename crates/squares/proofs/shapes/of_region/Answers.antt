@@ -3,8 +3,8 @@ use Rattle.squares.specs.Entries.{bound_at}
 use Rattle.squares.proofs.Filling.{ByColumns, Filled, diagonal, off_diagonal, next_rows, next_columns}
 use Rattle.squares.proofs.Indices.{to_the_end}
 use Rattle.squares.proofs.SquareOf.{square_of}
-use Rattle.squares.proofs.regions.of_region.Goals as goal
-use Rattle.squares.proofs.regions.of_region.Goals.{then-i-j, else-i-j}
+use Rattle.squares.proofs.shapes.of_region.Goals as goal
+use Rattle.squares.proofs.shapes.of_region.Goals.{then-i-j, else-i-j}
 
 pub loop-j-preserved : goal.loop-j-preserved
 loop-j-preserved c =

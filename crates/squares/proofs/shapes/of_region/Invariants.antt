@@ -1,6 +1,6 @@
 use Rattle.std.proofs.Common.{◌≡◌, length}
 use Rattle.squares.proofs.Filling.{ByRows, ByColumns}
-use Rattle.squares.proofs.regions.of_region.Given as goal
+use Rattle.squares.proofs.shapes.of_region.Given as goal
 
 abbrev pub invariant-loop-i : goal.invariant-loop-i
 invariant-loop-i l = (length l.bounds ≡ 81) × ByRows l.top l.region l.clocks l.bounds l.i
