@@ -4,14 +4,17 @@ use drawing::Drawing;
 use rows::constraints::{Conjunction, Relation};
 use rows::edges::{Edge, Location};
 use rows::views::Automaton;
-use std::alloc::Global;
-use std::fmt;
-use std::fmt::Write;
+use std::alloc::{AllocError, Global};
 
 // The name of a clock or position, or a letter and its number where it has none.
-fn write_name(text: &mut String, names: &[String], letter: char, number: u32) -> fmt::Result {
+fn write_name(
+    text: &mut String,
+    names: &[String],
+    letter: char,
+    number: u32,
+) -> Result<(), AllocError> {
     match names.get(number as usize) {
-        Some(name) => text.write_str(name.as_str()),
+        Some(name) => text.push_str(name.as_str()),
         None => write!(text, "{letter}{number}"),
     }
 }
@@ -31,12 +34,12 @@ fn write_tests(
     clocks: &[String],
     word: &str,
     tests: Conjunction<'_>,
-) -> fmt::Result {
+) -> Result<(), AllocError> {
     for place in 0..tests.len() {
         let Some(test) = tests.get(place) else {
             break;
         };
-        text.write_str(if place == 0 { word } else { ", " })?;
+        text.push_str(if place == 0 { word } else { ", " })?;
         write_name(text, clocks, 'x', test.clock.0)?;
         let sign = sign(test.relation);
         let bound = test.bound;
@@ -45,17 +48,21 @@ fn write_tests(
     Ok(())
 }
 
-fn write_clocks(text: &mut String, count: u32, clocks: &[String]) -> fmt::Result {
+fn write_clocks(text: &mut String, count: u32, clocks: &[String]) -> Result<(), AllocError> {
     let plural = if count == 1 { "" } else { "s" };
     write!(text, "{count} clock{plural}:")?;
     for number in 0..count {
-        text.write_str(" ")?;
+        text.push_str(" ")?;
         write_name(text, clocks, 'x', number)?;
     }
-    text.write_str("\n")
+    text.push_str("\n")
 }
 
-fn write_positions(text: &mut String, automaton: Automaton<'_>, names: &Drawing) -> fmt::Result {
+fn write_positions(
+    text: &mut String,
+    automaton: Automaton<'_>,
+    names: &Drawing,
+) -> Result<(), AllocError> {
     let count = automaton.locations();
     let plural = if count == 1 { "" } else { "s" };
     write!(text, "{count} position{plural}:\n")?;
@@ -65,28 +72,32 @@ fn write_positions(text: &mut String, automaton: Automaton<'_>, names: &Drawing)
         if let Some(tests) = automaton.invariant(Location(number)) {
             write_tests(text, names.clocks.as_slice(), ": ", tests)?;
         }
-        text.write_str("\n")?;
+        text.push_str("\n")?;
     }
     Ok(())
 }
 
-fn write_step(text: &mut String, names: &Drawing, edge: Edge<'_>) -> fmt::Result {
+fn write_step(text: &mut String, names: &Drawing, edge: Edge<'_>) -> Result<(), AllocError> {
     write_name(text, names.positions.as_slice(), 'p', edge.source.0)?;
-    text.write_str(" -> ")?;
+    text.push_str(" -> ")?;
     write_name(text, names.positions.as_slice(), 'p', edge.target.0)?;
     write_tests(text, names.clocks.as_slice(), " when ", edge.guard)?;
     for (place, clock) in edge.resets.iter().enumerate() {
-        text.write_str(if place == 0 { " reset " } else { " " })?;
+        text.push_str(if place == 0 { " reset " } else { " " })?;
         write_name(text, names.clocks.as_slice(), 'x', *clock)?;
     }
-    text.write_str("\n")
+    text.push_str("\n")
 }
 
-fn write_steps(text: &mut String, automaton: Automaton<'_>, names: &Drawing) -> fmt::Result {
+fn write_steps(
+    text: &mut String,
+    automaton: Automaton<'_>,
+    names: &Drawing,
+) -> Result<(), AllocError> {
     let count = automaton.edges().count();
     match count {
-        0 => return text.write_str("no steps\n"),
-        1 => text.write_str("1 step:\n")?,
+        0 => return text.push_str("no steps\n"),
+        1 => text.push_str("1 step:\n")?,
         _ => write!(text, "{count} steps:\n")?,
     }
     for (number, edge) in automaton.edges().enumerate() {
