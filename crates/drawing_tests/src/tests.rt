@@ -83,9 +83,9 @@ fn comes_back(rt: &impl Abort, heap: Global, row: &[u32]) -> Result<(), Fail> {
 #[test]
 fn reads_drawings(rt: HostRuntime) -> Result<(), Fail> {
     let bell = read(rt.alloc(), BELL.as_bytes())?;
-    assert!(rt; bell.row.as_slice() == BELL_ROW);
+    assert!(rt; bell.row.as_slice() == BELL_ROW.as_slice());
     let dense = read(rt.alloc(), DENSE.as_bytes())?;
-    assert!(rt; dense.row.as_slice() == DENSE_ROW);
+    assert!(rt; dense.row.as_slice() == DENSE_ROW.as_slice());
     Ok(())
 }
 
