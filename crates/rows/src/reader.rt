@@ -2,6 +2,7 @@
 ghost use Rattle.std.specs.Prelude.{◌≡◌, ℕ, suc, ◌+◌, ◌<◌, ◌≤◌, length, slice_index};
 ghost use Rattle.rows.specs.Parse.{parse_constraints, parse_conjunction, parse_invariants, parse_clocks, parse_resets, parse_edge, parse_edges};
 ghost use Rattle.rows.specs.Reading.{Step, Tells, TellsEnd, ReadPost};
+ghost use Rattle.rows.specs.Statements.{RowsRound};
 
 use crate::refusals::{Refusal, Rule};
 use crate::views::Automaton;
@@ -166,7 +167,8 @@ fn check_edges(row: &[u32], at: usize, clocks: u32, locations: u32) -> Result<us
 
 // Accepts exactly the rows that are the writing of an automaton, and no row is the writing of two.
 pub fn read(row: &[u32]) -> Result<Automaton<'_>, Refusal>
-    ensures { ReadPost row.now result }
+    ensures post { ReadPost row.now result }
+    ensures round { RowsRound }
 {
     if row.len() > MOST_WORDS {
         return Err(Refusal {
