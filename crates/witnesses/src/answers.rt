@@ -42,14 +42,14 @@ pub fn witness_of(
 ) -> Result<Option<Witness>, Failure>
     ensures { IfOk result (λ witness. WitnessIs automaton.now table.now location.0 part witness) }
 {
-    let number = location.0 as usize;
-    let Some(answer) = table.told(number) else {
+    if location.0 >= table.locations() {
         return Err(Failure::Astray);
-    };
+    }
+    let answer = table.told(location.0);
     let Some(arrival) = arrival_for(answer, part) else {
         return Ok(None);
     };
-    let Some(entry) = table.first(number) else {
+    let Some(entry) = table.first(location.0 as usize) else {
         return Err(Failure::Astray);
     };
     let Some(region) = table.region(entry) else {
