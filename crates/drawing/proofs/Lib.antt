@@ -1,2 +1,3 @@
--- Lemmas on the text of a row.
+-- Lemmas on the text of a row, and on the sizes of parts.
 pub mod Lines
+pub mod Sizes

@@ -1,54 +1,95 @@
 // A reader's place in a line: it takes the next word if that is what may stand there, and else it is a mistake.
+ghost use Rattle.std.specs.Prelude.{◌≡◌, true, false, T, Some, MatchResult};
+ghost use Rattle.std.specs.Option.{option_map};
+ghost use Rattle.drawing.specs.Words.{text_part, sign_part, is_end};
+ghost use Rattle.drawing.specs.declared.mistakes.Mistake.TheVariants.{Word as Mistaken};
+
 use crate::errors::{Expected, Place, Sign};
 use crate::mistakes::Mistake;
-use crate::words::{Line, Token, Word};
+use crate::words::{Cut, Word, cut_word};
 
+// The next word with its place, and what of the line is past it.
 #[derive(Drop)]
 pub struct Cursor<'a> {
-    pub line: &'a Line,
-    at: usize,
+    word: Word<'a>,
+    place: Place,
+    rest: &'a str,
+    // the column at which the rest begins
+    column: usize,
 }
 
 impl<'a> Cursor<'a> {
-    pub fn new(line: &'a Line) -> Cursor<'a> {
-        Cursor { line, at: 0 }
+    // A cursor at the first word of a line.
+    pub fn new(number: usize, line: &'a str) -> Cursor<'a> {
+        let mut cursor = Cursor {
+            word: Word::End,
+            place: Place {
+                line: number,
+                column: 1,
+            },
+            rest: line,
+            column: 1,
+        };
+        cursor.advance();
+        cursor
+    }
+
+    pub fn word(&self) -> Word<'a>
+        ensures { result ≡ self.now.word }
+    {
+        self.word
+    }
+
+    pub fn place(&self) -> Place
+        ensures { result ≡ self.now.place }
+    {
+        self.place
     }
 
     // The next word, if it is a name or a number.
-    pub fn text(&self) -> Option<&'a str> {
-        match self.line.tokens.get(self.at) {
-            Some(
-                Token {
-                    word: Word::Text(text),
-                    column: _,
-                },
-            ) => Some(text.as_str()),
+    pub fn text(&self) -> Option<&'a str>
+        ensures { option_map (λ x. x.now) result ≡ text_part self.now.word }
+    {
+        match self.word {
+            Word::Text(text) => Some(text),
             _ => None,
         }
     }
 
-    pub fn sign(&self) -> Option<Sign> {
-        match self.line.tokens.get(self.at) {
-            Some(
-                Token {
-                    word: Word::Sign(sign),
-                    column: _,
-                },
-            ) => Some(*sign),
+    pub fn sign(&self) -> Option<Sign>
+        ensures { result ≡ sign_part self.now.word }
+    {
+        match self.word {
+            Word::Sign(sign) => Some(sign),
             _ => None,
         }
     }
 
+    // Goes on to the next word. A blank is one byte.
     pub fn advance(&mut self) {
-        self.at = self.at.saturating_add(1);
+        let text = self.rest.trim_start_matches([' ', '\t']);
+        let blanks = self.rest.len().saturating_sub(text.len());
+        let Cut { word, rest } = cut_word(text);
+        self.place.column = self.column.saturating_add(blanks);
+        self.column = self.place.column.saturating_add(word.width());
+        self.word = word;
+        self.rest = rest;
     }
 
-    pub fn at_end(&self) -> bool {
-        self.at >= self.line.tokens.len()
+    pub fn at_end(&self) -> bool
+        ensures { result ≡ is_end self.now.word }
+    {
+        match self.word {
+            Word::End => true,
+            _ => false,
+        }
     }
 
     // Takes the sign, if it is the next word.
-    pub fn take_sign(&mut self, sign: Sign) -> bool {
+    pub fn take_sign(&mut self, sign: Sign) -> bool
+        ensures taken { result ≡ true → sign_part self.old.word ≡ Some sign }
+        ensures left { result ≡ false → self.new ≡ self.old }
+    {
         let here = self.sign() == Some(sign);
         if here {
             self.advance();
@@ -57,7 +98,10 @@ impl<'a> Cursor<'a> {
     }
 
     // Takes the word of the language, if it is the next word.
-    pub fn take_word(&mut self, word: &str) -> bool {
+    pub fn take_word(&mut self, word: &str) -> bool
+        ensures taken { result ≡ true → text_part self.old.word ≡ Some word.now }
+        ensures left { result ≡ false → self.new ≡ self.old }
+    {
         let here = self.text() == Some(word);
         if here {
             self.advance();
@@ -66,21 +110,15 @@ impl<'a> Cursor<'a> {
     }
 
     // Something else was expected here.
-    pub fn mistake(&self, expected: Expected) -> Mistake {
-        let column = match self.line.tokens.get(self.at) {
-            Some(token) => token.column,
-            None => self.line.end,
-        };
-        Mistake::Word(
-            Place {
-                line: self.line.number,
-                column,
-            },
-            expected,
-        )
+    pub fn mistake(&self, expected: Expected) -> Mistake
+        ensures { result ≡ Mistaken self.now.place expected }
+    {
+        Mistake::Word(self.place, expected)
     }
 
-    pub fn expect_end(&self, expected: Expected) -> Result<(), Mistake> {
+    pub fn expect_end(&self, expected: Expected) -> Result<(), Mistake>
+        ensures { MatchResult result (λ _. is_end self.now.word ≡ true) (λ m. m ≡ Mistaken self.now.place expected) }
+    {
         if self.at_end() {
             Ok(())
         } else {

@@ -1,4 +1,7 @@
 // Why a text is no drawing: where, what was found there, and what was expected.
+ghost use Rattle.std.specs.Prelude.{◌≡◌, Some};
+ghost use Rattle.drawing.specs.Words.{text_of};
+
 use clockworks::rows::Unfit;
 use std::fmt;
 
@@ -31,6 +34,23 @@ pub enum Sign {
     AtLeast,
     Above,
     Equal,
+}
+
+impl Sign {
+    pub fn text(self) -> &'static str
+        ensures { result.now ≡ text_of self }
+    {
+        match self {
+            Sign::Colon => ":",
+            Sign::Comma => ",",
+            Sign::Arrow => "->",
+            Sign::AtMost => "<=",
+            Sign::Below => "<",
+            Sign::AtLeast => ">=",
+            Sign::Above => ">",
+            Sign::Equal => "=",
+        }
+    }
 }
 
 #[derive(Clone, Copy, Debug)]
@@ -70,17 +90,10 @@ pub enum Refusal {
 }
 
 impl fmt::Display for Sign {
+    ghost output = { λ s. Some (text_of s) };
+
     fn fmt<W: fmt::Write>(&self, f: &mut fmt::Formatter<W>) -> fmt::Result {
-        f.write_str(match self {
-            Sign::Colon => ":",
-            Sign::Comma => ",",
-            Sign::Arrow => "->",
-            Sign::AtMost => "<=",
-            Sign::Below => "<",
-            Sign::AtLeast => ">=",
-            Sign::Above => ">",
-            Sign::Equal => "=",
-        })
+        f.write_str(self.text())
     }
 }
 

@@ -1,49 +1,58 @@
-// A mistake is put into words: what stands at its place is looked up in the lines.
+// A mistake is put into words: what stands at its place is looked up in the text.
+ghost use Rattle.drawing.specs.Explained.{Explained};
+
+use crate::cursor::Cursor;
 use crate::errors::{Expected, Found, Place, Refusal};
 use crate::mistakes::Mistake;
-use crate::words::{Line, Token, Word};
+use crate::words::Word;
+use clockworks::rows::Unfit;
 use std::alloc::{AllocError, Global};
 
-fn found_word(heap: Global, token: &Token) -> Result<Found, AllocError> {
-    match &token.word {
-        Word::Sign(sign) => Ok(Found::Sign(*sign)),
-        Word::Text(text) => Ok(Found::Text(String::from_str(heap, text.as_str())?)),
+fn found_word(heap: Global, word: Word) -> Result<Found, AllocError> {
+    match word {
+        Word::Text(text) => Ok(Found::Text(String::from_str(heap, text)?)),
+        Word::Sign(sign) => Ok(Found::Sign(sign)),
+        Word::Stray(c) => Ok(Found::Character(c)),
+        Word::End => Ok(Found::LineEnd),
     }
 }
 
-fn found_in_line(heap: Global, line: &Line, column: usize) -> Result<Found, AllocError> {
-    for token in line.tokens.as_slice() {
-        if token.column == column {
-            return found_word(heap, token);
+// The word at a column. Each word has a character or more, so that the turns suffice.
+fn found_in_line(heap: Global, line: &str, place: Place) -> Result<Found, AllocError> {
+    let mut cursor = Cursor::new(place.line, line);
+    for _ in 0..line.len() {
+        if cursor.place().column >= place.column {
+            break;
         }
+        cursor.advance();
     }
-    Ok(Found::LineEnd)
+    found_word(heap, cursor.word())
 }
 
-fn found_at(heap: Global, lines: &[Line], place: Place) -> Result<Found, AllocError> {
-    for line in lines {
-        if line.number == place.line {
-            return found_in_line(heap, line, place.column);
-        }
+fn found_at(heap: Global, text: &str, place: Place) -> Result<Found, AllocError> {
+    match text.lines().nth(place.line.saturating_sub(1)) {
+        Some(line) => found_in_line(heap, line, place),
+        None => Ok(Found::TextEnd),
     }
-    Ok(Found::LineEnd)
 }
 
-pub fn explain(heap: Global, lines: &[Line], mistake: Mistake) -> Refusal {
+pub fn explain(heap: Global, text: &str, mistake: Mistake) -> Refusal
+    ensures { Explained mistake result }
+{
     match mistake {
         Mistake::Memory => Refusal::Memory,
-        Mistake::Character(place, c) => Refusal::Wrong {
-            place,
-            found: Found::Character(c),
-            expected: Expected::Character,
-        },
-        Mistake::Word(place, expected) => match found_at(heap, lines, place) {
+        Mistake::Word(place, expected) => match found_at(heap, text, place) {
             Ok(found) => Refusal::Wrong {
                 place,
                 found,
                 expected,
             },
             Err(_) => Refusal::Memory,
+        },
+        Mistake::Row(place) => Refusal::Wrong {
+            place,
+            found: Found::Unfit(Unfit::Words),
+            expected: Expected::Row,
         },
     }
 }

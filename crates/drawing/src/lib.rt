@@ -7,18 +7,19 @@ ghost use Rattle.drawing.specs.Drawn.{Draws, DrawnAs};
 use crate::errors::{Expected, Found, Place, Refusal};
 use crate::mistakes::Mistake;
 use crate::names::Names;
-use crate::words::Line;
 use clockworks::parts::Clockwork;
 use clockworks::rows::{Unfit, write_row};
 use clockworks::split::split_row;
 use std::alloc::Global;
 
+mod characters;
 mod cursor;
 pub mod errors;
 mod explain;
 mod mistakes;
 mod names;
 mod reader;
+mod room;
 mod sheet;
 mod words;
 
@@ -57,19 +58,10 @@ fn as_text(bytes: &[u8]) -> Result<&str, Refusal> {
     }
 }
 
-fn read_words(heap: Global, bytes: &[u8]) -> Result<Vec<Line>, Refusal> {
-    match words::cut_lines(heap, as_text(bytes)?) {
-        Ok(lines) => Ok(lines),
-        Err(mistake) => {
-            let none = Vec::new(heap);
-            Err(explain::explain(heap, none.as_slice(), mistake))
-        }
-    }
-}
-
-fn read_parts(heap: Global, lines: &[Line]) -> Result<(Names, Clockwork), Mistake> {
-    let names = names::declare_all(heap, lines)?;
-    let clockwork = reader::read_lines(heap, &names, lines)?;
+fn read_parts(heap: Global, text: &str) -> Result<(Names, Clockwork), Mistake> {
+    characters::check_all(text)?;
+    let names = names::declare_all(heap, text)?;
+    let clockwork = reader::read_all(heap, &names, text)?;
     Ok((names, clockwork))
 }
 
@@ -117,10 +109,13 @@ fn finish(heap: Global, end: Place, names: Names, clockwork: &Clockwork) -> Resu
 pub fn read(heap: Global, bytes: &[u8]) -> Result<Drawing, Refusal>
     ensures { IfOk result (λ d. Draws d.row.items (vec_len d.clocks) (vec_len d.positions)) }
 {
-    let lines = read_words(heap, bytes)?;
-    match read_parts(heap, lines.as_slice()) {
-        Ok((names, clockwork)) => finish(heap, place_after(bytes, bytes.len()), names, &clockwork),
-        Err(mistake) => Err(explain::explain(heap, lines.as_slice(), mistake)),
+    let text = as_text(bytes)?;
+    let end = place_after(bytes, bytes.len());
+    match read_parts(heap, text) {
+        Ok((names, clockwork)) => finish(heap, end, names, &clockwork),
+        // A row that is too long is no mistake of one part: its place is the end of the text.
+        Err(Mistake::Row(_)) => Err(explain::explain(heap, text, Mistake::Row(end))),
+        Err(mistake) => Err(explain::explain(heap, text, mistake)),
     }
 }
 

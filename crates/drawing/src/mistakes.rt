@@ -5,10 +5,10 @@ use std::alloc::{AllocError, AllocFailed};
 #[derive(Clone, Copy)]
 pub enum Mistake {
     Memory,
-    // A character that is no part of any word.
-    Character(Place, char),
     // The word at the place, or the end of its line where there is none.
     Word(Place, Expected),
+    // The part at the place, with which the row has too many numbers.
+    Row(Place),
 }
 
 impl From<AllocError> for Mistake {

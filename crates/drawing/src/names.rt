@@ -1,11 +1,10 @@
 // The names of a drawing's clocks and positions, in the order of their numbers.
-ghost use Rattle.std.specs.Prelude.{◌≡◌, ◌<◌, length, IfSome, string_bytes};
+ghost use Rattle.std.specs.Prelude.{◌≡◌, ◌<◌, ◌≤◌, length, IfSome, IfOk, vec_len, string_bytes, OnOk};
 ghost use Rattle.std.specs.List.{HoldsAt};
 
 use crate::cursor::Cursor;
 use crate::errors::{Expected, Sign};
 use crate::mistakes::Mistake;
-use crate::words::Line;
 use clockworks::rows::{MOST_CLOCKS, MOST_POSITIONS};
 use std::alloc::Global;
 
@@ -59,13 +58,15 @@ fn new_name<'a>(
     Ok(text)
 }
 
-// The names after `clocks`: blanks part them, and a comma may.
+// The names after `clocks`: blanks part them, and a comma may. Each turn adds a clock, so that the turns suffice.
 fn declare_clocks(
     heap: Global,
     clocks: &mut Vec<String>,
     cursor: &mut Cursor,
-) -> Result<(), Mistake> {
-    for _ in 0..=cursor.line.tokens.len() {
+) -> Result<(), Mistake>
+    ensures { OnOk result (vec_len clocks.old ≤ 8 → vec_len clocks.new ≤ 8) }
+{
+    for _ in 0..=MOST_CLOCKS {
         if clocks.len() >= MOST_CLOCKS as usize {
             return Err(cursor.mistake(Expected::FewClocks));
         }
@@ -88,7 +89,9 @@ fn declare_position(
     heap: Global,
     positions: &mut Vec<String>,
     cursor: &Cursor,
-) -> Result<(), Mistake> {
+) -> Result<(), Mistake>
+    ensures { OnOk result (vec_len positions.new ≤ 256) }
+{
     if positions.len() >= MOST_POSITIONS {
         return Err(cursor.mistake(Expected::FewPositions));
     }
@@ -103,11 +106,13 @@ fn declare_position(
 }
 
 // All names of the text, so that a step may go to a position that is named below it.
-pub fn declare_all(heap: Global, lines: &[Line]) -> Result<Names, Mistake> {
+pub fn declare_all(heap: Global, text: &str) -> Result<Names, Mistake>
+    ensures { IfOk result (λ names. (vec_len names.clocks ≤ 8) × (vec_len names.positions ≤ 256)) }
+{
     let mut clocks = Vec::new(heap);
     let mut positions = Vec::new(heap);
-    for line in lines {
-        let mut cursor = Cursor::new(line);
+    for (index, line) in text.lines().enumerate() {
+        let mut cursor = Cursor::new(index.saturating_add(1), line);
         if cursor.take_word("clocks") {
             declare_clocks(heap, &mut clocks, &mut cursor)?;
         } else if cursor.take_word("position") {

@@ -1,15 +1,28 @@
 // A drawing is read line by line into the parts of a clockwork.
-ghost use Rattle.std.specs.Prelude.{◌≡◌, ◌≤◌, ◌++◌, IfOk, OnOk};
-ghost use Rattle.drawing.specs.Comparisons.{tests_of};
+ghost use Rattle.std.specs.Prelude.{◌≡◌, ◌+◌, ◌*◌, ◌≤◌, ◌++◌, length, IfOk, Some, None, vec_len, MatchResult, OnOk};
+ghost use Rattle.automata.specs.Rows.{write};
+ghost use Rattle.clockworks.specs.Meaning.{automaton};
+ghost use Rattle.drawing.specs.Words.{sign_part};
+ghost use Rattle.drawing.specs.Comparisons.{tests_of, comparison_at};
+ghost use Rattle.drawing.specs.Sizes.{test_count, position_size, step_size, parts_size};
 
 use crate::cursor::Cursor;
 use crate::errors::{Expected, Sign};
 use crate::mistakes::Mistake;
 use crate::names::{Names, find};
-use crate::words::Line;
+use crate::room::Room;
 use clockworks::parts::{Clockwork, Position, Relation, Step, Test};
 use clockworks::rows::MOST_BOUND;
 use std::alloc::Global;
+
+// How many numbers of the row each part takes, without the tests and clocks in it.
+const POSITION_NUMBERS: usize = 1;
+
+const STEP_NUMBERS: usize = 4;
+
+const TEST_NUMBERS: usize = 3;
+
+const RESET_NUMBERS: usize = 1;
 
 // Where a test stands: in a position it may bound a clock only from above.
 #[derive(Clone, Copy)]
@@ -37,7 +50,9 @@ fn read_name(names: &[String], cursor: &mut Cursor, expected: Expected) -> Resul
     Ok(number)
 }
 
-fn read_comparison(cursor: &mut Cursor, owner: Owner) -> Result<Comparison, Mistake> {
+fn read_comparison(cursor: &mut Cursor, owner: Owner) -> Result<Comparison, Mistake>
+    ensures { MatchResult result (λ k. comparison_at owner (sign_part cursor.old.word) ≡ Some k) (λ _. comparison_at owner (sign_part cursor.old.word) ≡ None) }
+{
     let comparison = match (cursor.sign(), owner) {
         (Some(Sign::AtMost), _) => Comparison::One(Relation::AtMost),
         (Some(Sign::Below), _) => Comparison::One(Relation::Below),
@@ -67,13 +82,24 @@ fn read_bound(cursor: &mut Cursor) -> Result<u32, Mistake>
     Ok(bound)
 }
 
+// How many numbers of the row the tests of a comparison take.
+fn numbers_of(comparison: Comparison) -> usize
+    ensures { result ≡ 3 * test_count comparison }
+{
+    match comparison {
+        Comparison::One(_) => TEST_NUMBERS,
+        Comparison::Equal => 2 * TEST_NUMBERS,
+    }
+}
+
 fn push_test(
     tests: &mut Vec<Test>,
     clock: u32,
     comparison: Comparison,
     bound: u32,
 ) -> Result<(), Mistake>
-    ensures { OnOk result (tests.new.items ≡ tests.old.items ++ tests_of clock comparison bound) }
+    ensures items { OnOk result (tests.new.items ≡ tests.old.items ++ tests_of clock comparison bound) }
+    ensures len { OnOk result (vec_len tests.new ≡ vec_len tests.old + test_count comparison) }
 {
     match comparison {
         Comparison::One(relation) => tests.push(Test {
@@ -101,24 +127,32 @@ fn read_test(
     clocks: &[String],
     cursor: &mut Cursor,
     owner: Owner,
+    room: &mut Room,
     tests: &mut Vec<Test>,
-) -> Result<(), Mistake> {
+) -> Result<(), Mistake>
+    ensures { OnOk result (room.new.left + 3 * vec_len tests.new ≡ room.old.left + 3 * vec_len tests.old) }
+{
+    let start = cursor.place();
     let clock = read_name(clocks, cursor, Expected::KnownClock)?;
     let comparison = read_comparison(cursor, owner)?;
     let bound = read_bound(cursor)?;
+    room.take(numbers_of(comparison), start)?;
     push_test(tests, clock, comparison, bound)
 }
 
-// Tests with commas between them. A line has no more tests than words.
+// Tests with commas between them. Each takes some of the room, so that the turns suffice.
 fn read_tests(
     heap: Global,
     clocks: &[String],
     cursor: &mut Cursor,
     owner: Owner,
-) -> Result<Vec<Test>, Mistake> {
+    room: &mut Room,
+) -> Result<Vec<Test>, Mistake>
+    ensures { IfOk result (λ tests. room.new.left + 3 * vec_len tests ≡ room.old.left) }
+{
     let mut tests = Vec::new(heap);
-    for _ in 0..=cursor.line.tokens.len() {
-        read_test(clocks, cursor, owner, &mut tests)?;
+    for _ in 0..=room.left() {
+        read_test(clocks, cursor, owner, room, &mut tests)?;
         if !cursor.take_sign(Sign::Comma) {
             break;
         }
@@ -131,9 +165,12 @@ fn read_invariant(
     heap: Global,
     clocks: &[String],
     cursor: &mut Cursor,
-) -> Result<Vec<Test>, Mistake> {
+    room: &mut Room,
+) -> Result<Vec<Test>, Mistake>
+    ensures { IfOk result (λ tests. room.new.left + 3 * vec_len tests ≡ room.old.left) }
+{
     if cursor.take_sign(Sign::Colon) {
-        read_tests(heap, clocks, cursor, Owner::Position)
+        read_tests(heap, clocks, cursor, Owner::Position, room)
     } else {
         cursor.expect_end(Expected::AfterPosition)?;
         Ok(Vec::new(heap))
@@ -141,9 +178,16 @@ fn read_invariant(
 }
 
 // The tests of a step, if it has any.
-fn read_guard(heap: Global, clocks: &[String], cursor: &mut Cursor) -> Result<Vec<Test>, Mistake> {
+fn read_guard(
+    heap: Global,
+    clocks: &[String],
+    cursor: &mut Cursor,
+    room: &mut Room,
+) -> Result<Vec<Test>, Mistake>
+    ensures { IfOk result (λ tests. room.new.left + 3 * vec_len tests ≡ room.old.left) }
+{
     if cursor.take_word("when") {
-        read_tests(heap, clocks, cursor, Owner::Step)
+        read_tests(heap, clocks, cursor, Owner::Step, room)
     } else if cursor.text() == Some("reset") {
         Ok(Vec::new(heap))
     } else {
@@ -152,12 +196,22 @@ fn read_guard(heap: Global, clocks: &[String], cursor: &mut Cursor) -> Result<Ve
     }
 }
 
-// The clocks that a step sets back, if any: blanks part them, and a comma may.
-fn read_resets(heap: Global, clocks: &[String], cursor: &mut Cursor) -> Result<Vec<u32>, Mistake> {
+// The clocks that a step sets back, if any: blanks part them, and a comma may. Each takes some of the room, so that the turns suffice.
+fn read_resets(
+    heap: Global,
+    clocks: &[String],
+    cursor: &mut Cursor,
+    room: &mut Room,
+) -> Result<Vec<u32>, Mistake>
+    ensures { IfOk result (λ resets. room.new.left + vec_len resets ≡ room.old.left) }
+{
     let mut resets = Vec::new(heap);
     if cursor.take_word("reset") {
-        for _ in 0..=cursor.line.tokens.len() {
-            resets.push(read_name(clocks, cursor, Expected::KnownClock)?)?;
+        for _ in 0..=room.left() {
+            let start = cursor.place();
+            let clock = read_name(clocks, cursor, Expected::KnownClock)?;
+            room.take(RESET_NUMBERS, start)?;
+            resets.push(clock)?;
             if !cursor.take_sign(Sign::Comma) && cursor.at_end() {
                 break;
             }
@@ -166,21 +220,35 @@ fn read_resets(heap: Global, clocks: &[String], cursor: &mut Cursor) -> Result<V
     Ok(resets)
 }
 
-fn read_position(heap: Global, names: &Names, cursor: &mut Cursor) -> Result<Position, Mistake> {
+fn read_position(
+    heap: Global,
+    names: &Names,
+    cursor: &mut Cursor,
+    room: &mut Room,
+) -> Result<Position, Mistake>
+    ensures { IfOk result (λ position. room.new.left + position_size position ≡ room.old.left + 1) }
+{
     let _number = read_name(names.positions.as_slice(), cursor, Expected::PositionName)?;
-    let tests = read_invariant(heap, names.clocks.as_slice(), cursor)?;
+    let tests = read_invariant(heap, names.clocks.as_slice(), cursor, room)?;
     cursor.expect_end(Expected::AfterTest)?;
     Ok(Position { tests })
 }
 
-fn read_step(heap: Global, names: &Names, cursor: &mut Cursor) -> Result<Step, Mistake> {
+fn read_step(
+    heap: Global,
+    names: &Names,
+    cursor: &mut Cursor,
+    room: &mut Room,
+) -> Result<Step, Mistake>
+    ensures { IfOk result (λ step. room.new.left + step_size step ≡ room.old.left + 4) }
+{
     let source = read_name(names.positions.as_slice(), cursor, Expected::KnownPosition)?;
     if !cursor.take_sign(Sign::Arrow) {
         return Err(cursor.mistake(Expected::Arrow));
     }
     let target = read_name(names.positions.as_slice(), cursor, Expected::KnownPosition)?;
-    let tests = read_guard(heap, names.clocks.as_slice(), cursor)?;
-    let resets = read_resets(heap, names.clocks.as_slice(), cursor)?;
+    let tests = read_guard(heap, names.clocks.as_slice(), cursor, room)?;
+    let resets = read_resets(heap, names.clocks.as_slice(), cursor, room)?;
     cursor.expect_end(Expected::AfterGuard)?;
     Ok(Step {
         source,
@@ -193,31 +261,40 @@ fn read_step(heap: Global, names: &Names, cursor: &mut Cursor) -> Result<Step, M
 fn read_line(
     heap: Global,
     names: &Names,
-    line: &Line,
+    cursor: &mut Cursor,
+    room: &mut Room,
     clockwork: &mut Clockwork,
-) -> Result<(), Mistake> {
-    let mut cursor = Cursor::new(line);
+) -> Result<(), Mistake>
+    ensures { OnOk result (room.new.left + parts_size clockwork.new ≡ room.old.left + parts_size clockwork.old) }
+{
+    let start = cursor.place();
     if cursor.take_word("position") {
+        room.take(POSITION_NUMBERS, start)?;
         clockwork
             .positions
-            .push(read_position(heap, names, &mut cursor)?)?;
+            .push(read_position(heap, names, cursor, room)?)?;
     } else if cursor.take_word("step") {
-        clockwork.steps.push(read_step(heap, names, &mut cursor)?)?;
+        room.take(STEP_NUMBERS, start)?;
+        clockwork.steps.push(read_step(heap, names, cursor, room)?)?;
     } else if !cursor.take_word("clocks") {
-        return Err(cursor.mistake(Expected::Statement));
+        cursor.expect_end(Expected::Statement)?;
     }
     Ok(())
 }
 
-// The parts of the clockwork that the lines draw. Its clocks and positions are numbered as in `names`.
-pub fn read_lines(heap: Global, names: &Names, lines: &[Line]) -> Result<Clockwork, Mistake> {
+// The parts of the clockwork that the text draws. Its clocks and positions are numbered as in `names`.
+pub fn read_all(heap: Global, names: &Names, text: &str) -> Result<Clockwork, Mistake>
+    ensures { IfOk result (λ clockwork. length (write (automaton clockwork)) ≤ 16384) }
+{
+    let mut room = Room::new();
     let mut clockwork = Clockwork {
         clocks: names.clocks.len().min(u32::MAX as usize) as u32,
         positions: Vec::new(heap),
         steps: Vec::new(heap),
     };
-    for line in lines {
-        read_line(heap, names, line, &mut clockwork)?;
+    for (index, line) in text.lines().enumerate() {
+        let mut cursor = Cursor::new(index.saturating_add(1), line);
+        read_line(heap, names, &mut cursor, &mut room, &mut clockwork)?;
     }
     Ok(clockwork)
 }

@@ -1,154 +1,115 @@
-// A line of a drawing is cut into its words: names, numbers and signs, with the column of each.
-use crate::errors::{Place, Sign};
-use crate::mistakes::Mistake;
-use std::alloc::Global;
+// The words of a line of a drawing: names, numbers and signs. Each is cut from the text when it is come to, and is a part of it.
+ghost use Rattle.std.specs.Prelude.{◌≡◌, ◌<◌, ◌++◌, length, IfSome};
+ghost use Rattle.drawing.specs.Words.{text_of, Cuts};
 
-#[derive(Drop)]
-pub enum Word {
-    Text(String),
+use crate::errors::Sign;
+
+// All signs, each before those that it begins with.
+const SIGNS: [Sign; 8] = [
+    Sign::Arrow,
+    Sign::AtMost,
+    Sign::AtLeast,
+    Sign::Below,
+    Sign::Above,
+    Sign::Equal,
+    Sign::Colon,
+    Sign::Comma,
+];
+
+// What a text begins with. `Stray` is a character that is part of no word, and `End` the end of the line or the comment there.
+#[derive(Clone, Copy)]
+pub enum Word<'a> {
+    Text(&'a str),
     Sign(Sign),
+    Stray(char),
+    End,
 }
 
-#[derive(Drop)]
-pub struct Token {
-    pub word: Word,
-    pub column: usize,
+impl Word<'_> {
+    // How many columns the word takes.
+    pub fn width(&self) -> usize {
+        match self {
+            Word::Text(text) => text.chars().count(),
+            Word::Sign(sign) => sign.text().len(),
+            Word::Stray(_) => 1,
+            Word::End => 0,
+        }
+    }
 }
 
-// The words of a line, without its comment; `end` is the column past them.
-#[derive(Drop)]
-pub struct Line {
-    pub number: usize,
-    pub tokens: Vec<Token>,
-    pub end: usize,
-}
-
-// What of a line has been cut. `text` is the name or number that is being read, and `start` its column.
-#[derive(Drop)]
-struct Cutter {
-    tokens: Vec<Token>,
-    text: String,
-    start: usize,
+// A word and what of the text is past it.
+#[derive(Clone, Copy)]
+pub struct Cut<'a> {
+    pub word: Word<'a>,
+    pub rest: &'a str,
 }
 
 fn belongs_to_text(c: char) -> bool {
     c.is_alphabetic() || c.is_ascii_digit() || c == '_' || c == '-'
 }
 
-fn push_sign(cutter: &mut Cutter, sign: Sign, column: usize) -> Result<(), Mistake> {
-    let word = Word::Sign(sign);
-    cutter.tokens.push(Token { word, column })?;
-    Ok(())
-}
-
-// Ends the name or number that is being read, if there is one.
-fn end_text(cutter: &mut Cutter, heap: Global) -> Result<(), Mistake> {
-    if cutter.text.is_empty() {
-        return Ok(());
+// The name or number that a text begins with ends where another character stands, or an arrow, so that no name takes its `-`.
+fn text_len(text: &str) -> usize {
+    for (at, c) in text.char_indices() {
+        let arrow = match text.get(at..) {
+            Some(rest) => rest.starts_with("->"),
+            None => false,
+        };
+        if arrow || !belongs_to_text(c) {
+            return at;
+        }
     }
-    let text = std::mem::replace(&mut cutter.text, String::new(heap));
-    let column = cutter.start;
-    let word = Word::Text(text);
-    cutter.tokens.push(Token { word, column })?;
-    Ok(())
+    text.len()
 }
 
-// A `=` right after `<` or `>` makes one sign with it.
-fn cut_equal(cutter: &mut Cutter, column: usize) -> Result<(), Mistake> {
-    let Some(before) = cutter.tokens.pop() else {
-        return push_sign(cutter, Sign::Equal, column);
+// The sign that a text begins with, and what is past it.
+fn cut_sign(text: &str) -> Option<(Sign, &str)>
+    ensures { IfSome result (λ x. text.now ≡ text_of x.0 ++ x.1.now) }
+{
+    for sign in SIGNS {
+        if let Some(rest) = text.strip_prefix(sign.text()) {
+            return Some((sign, rest));
+        }
+    }
+    None
+}
+
+// The name or number that a text begins with, and what is past it.
+fn cut_text(text: &str) -> Option<(&str, &str)>
+    ensures { IfSome result (λ x. (text.now ≡ x.0.now ++ x.1.now) × (0 < length x.0.now)) }
+{
+    let (name, rest) = text.split_at_checked(text_len(text))?;
+    if name.is_empty() {
+        return None;
+    }
+    Some((name, rest))
+}
+
+// The first word of a text that begins with no blank.
+pub fn cut_word(text: &str) -> Cut<'_>
+    ensures { Cuts text.now result.word result.rest.now }
+{
+    if let Some((sign, rest)) = cut_sign(text) {
+        let word = Word::Sign(sign);
+        return Cut { word, rest };
+    }
+    if let Some((name, rest)) = cut_text(text) {
+        let word = Word::Text(name);
+        return Cut { word, rest };
+    }
+    let mut characters = text.chars();
+    let end = Cut {
+        word: Word::End,
+        rest: text,
     };
-    if before.column.saturating_add(1) == column {
-        match before.word {
-            Word::Sign(Sign::Below) => return push_sign(cutter, Sign::AtMost, before.column),
-            Word::Sign(Sign::Above) => return push_sign(cutter, Sign::AtLeast, before.column),
-            _ => {}
-        }
-    }
-    cutter.tokens.push(before)?;
-    push_sign(cutter, Sign::Equal, column)
-}
-
-// A `>` right after `-` makes an arrow with it, so no name takes that `-`.
-fn cut_above(cutter: &mut Cutter, heap: Global, column: usize) -> Result<(), Mistake> {
-    let arrow = cutter.text.as_str().ends_with('-');
-    if !arrow {
-        end_text(cutter, heap)?;
-        return push_sign(cutter, Sign::Above, column);
-    }
-    let _ = cutter.text.pop();
-    end_text(cutter, heap)?;
-    push_sign(cutter, Sign::Arrow, column.saturating_sub(1))
-}
-
-fn cut_character(cutter: &mut Cutter, heap: Global, c: char, place: Place) -> Result<(), Mistake> {
-    let column = place.column;
-    if belongs_to_text(c) {
-        if cutter.text.is_empty() {
-            cutter.start = column;
-        }
-        cutter.text.push(c)?;
-        return Ok(());
-    }
-    if c == '>' {
-        return cut_above(cutter, heap, column);
-    }
-    end_text(cutter, heap)?;
-    match c {
-        ' ' | '\t' => Ok(()),
-        ':' => push_sign(cutter, Sign::Colon, column),
-        ',' => push_sign(cutter, Sign::Comma, column),
-        '<' => push_sign(cutter, Sign::Below, column),
-        '=' => cut_equal(cutter, column),
-        _ => Err(Mistake::Character(place, c)),
-    }
-}
-
-fn cut_line(heap: Global, number: usize, text: &str) -> Result<Line, Mistake> {
-    let mut cutter = Cutter {
-        tokens: Vec::new(heap),
-        text: String::new(heap),
-        start: 1,
+    let Some(c) = characters.next() else {
+        return end;
     };
-    let mut column = 1usize;
-    for c in text.chars() {
-        if c == '#' {
-            break;
-        }
-        cut_character(
-            &mut cutter,
-            heap,
-            c,
-            Place {
-                line: number,
-                column,
-            },
-        )?;
-        column = column.saturating_add(1);
+    if c == '#' {
+        return end;
     }
-    end_text(&mut cutter, heap)?;
-    let Cutter {
-        tokens,
-        text: _,
-        start: _,
-    } = cutter;
-    Ok(Line {
-        number,
-        tokens,
-        end: column,
-    })
-}
-
-// The lines of a text that have words.
-pub fn cut_lines(heap: Global, text: &str) -> Result<Vec<Line>, Mistake> {
-    let mut lines = Vec::new(heap);
-    let mut number = 1usize;
-    for text in text.lines() {
-        let line = cut_line(heap, number, text)?;
-        if !line.tokens.is_empty() {
-            lines.push(line)?;
-        }
-        number = number.saturating_add(1);
+    Cut {
+        word: Word::Stray(c),
+        rest: characters.as_str(),
     }
-    Ok(lines)
 }

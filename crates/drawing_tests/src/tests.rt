@@ -1,7 +1,7 @@
 // Drawings that are read, refusals with their words, and rows that come back from their drawings.
 use clockworks::rows::Unfit;
 use drawing::{draw, read};
-use std::alloc::Global;
+use std::alloc::{AllocError, Global};
 use std::process::Abort;
 use std::test::Fail;
 
@@ -95,6 +95,109 @@ fn refuses_texts(rt: HostRuntime) -> Result<(), Fail> {
         says(&rt, rt.alloc(), text, message)?;
     }
     Ok(())
+}
+
+// A text of a front, so many times a part, and an end.
+fn repeat(
+    heap: Global,
+    front: &str,
+    part: &str,
+    count: usize,
+    end: &str,
+) -> Result<String, AllocError> {
+    let mut text = String::from_str(heap, front)?;
+    for _ in 0..count {
+        text.push_str(part)?;
+    }
+    text.push_str(end)?;
+    Ok(text)
+}
+
+// A step that sets a clock back so many times: its row has 7 numbers more.
+fn resets(heap: Global, count: usize) -> Result<String, AllocError> {
+    repeat(
+        heap,
+        "clocks x\nposition a\nstep a -> a reset",
+        " x",
+        count,
+        "\n",
+    )
+}
+
+#[test]
+fn reads_the_largest_row(rt: HostRuntime) -> Result<(), Fail> {
+    let heap = rt.alloc();
+    let drawing = read(heap, resets(heap, 16_377)?.as_bytes())?;
+    assert_eq!(rt; drawing.row.len(), 16_384);
+    says(
+        &rt,
+        heap,
+        resets(heap, 16_378)?.as_str(),
+        "4:1: found more than 16384 numbers, expected a clockwork that a row can hold",
+    )
+}
+
+// The place is the end of the text, and what is past the part for which there is no room is not read.
+#[test]
+fn refuses_larger_rows(rt: HostRuntime) -> Result<(), Fail> {
+    let heap = rt.alloc();
+    let steps = repeat(heap, "clocks x\nposition a\n", "step a->a\n", 4_095, "")?;
+    assert_eq!(rt; read(heap, steps.as_bytes())?.row.len(), 16_383);
+    let steps = repeat(heap, steps.as_str(), "step a->a\n", 20_000, "step")?;
+    says(
+        &rt,
+        heap,
+        steps.as_str(),
+        "24098:5: found more than 16384 numbers, expected a clockwork that a row can hold",
+    )?;
+    let tests = repeat(heap, "clocks x\nposition a: x<1", ",x<1", 5_459, "")?;
+    assert_eq!(rt; read(heap, tests.as_bytes())?.row.len(), 16_383);
+    let tests = repeat(heap, tests.as_str(), ",x<1", 1, "")?;
+    says(
+        &rt,
+        heap,
+        tests.as_str(),
+        "2:21856: found more than 16384 numbers, expected a clockwork that a row can hold",
+    )?;
+    let tests = repeat(
+        heap,
+        "clocks x\nposition a\nstep a->a when x<1",
+        ",x=1",
+        2_729,
+        "",
+    )?;
+    assert_eq!(rt; read(heap, tests.as_bytes())?.row.len(), 16_384);
+    let tests = repeat(heap, tests.as_str(), ",x=1", 60_000, "")?;
+    says(
+        &rt,
+        heap,
+        tests.as_str(),
+        "3:250935: found more than 16384 numbers, expected a clockwork that a row can hold",
+    )
+}
+
+#[test]
+fn refuses_long_lines(rt: HostRuntime) -> Result<(), Fail> {
+    let heap = rt.alloc();
+    says(
+        &rt,
+        heap,
+        repeat(heap, "", ",", 100_000, "")?.as_str(),
+        "1:1: found `,`, expected `clocks`, `position` or `step`",
+    )?;
+    says(
+        &rt,
+        heap,
+        repeat(
+            heap,
+            "clocks x\nposition a\nstep a->a reset x",
+            ",x",
+            100_000,
+            "",
+        )?
+        .as_str(),
+        "3:200018: found more than 16384 numbers, expected a clockwork that a row can hold",
+    )
 }
 
 #[test]

@@ -1,0 +1,63 @@
+-- A part that is put behind the others adds its size to theirs, and the sizes of all are the length of the row.
+use Rattle.std.proofs.Common.{◌≡◌, ◌+◌, ◌*◌, List, [], ◌∷◌, ◌++◌, map, length, vec_items, ap, ◌∙◌, arith, length-append}
+use Rattle.automata.specs.Rows.{write, write_constraints, write_invariants, write_edges}
+use Rattle.clockworks.specs.declared.parts.Test.{Test}
+use Rattle.clockworks.specs.declared.parts.Position.{Position}
+use Rattle.clockworks.specs.declared.parts.Step.{Step}
+use Rattle.clockworks.specs.declared.parts.Clockwork.{Clockwork}
+use Rattle.clockworks.specs.Meaning.{constraints, invariant_of, edge, automaton}
+use Rattle.drawing.specs.Sizes.{position_size, step_size, size_of_positions, size_of_steps, parts_size}
+
+add-position : (ps : List Position) (p : Position) → size_of_positions (ps ++ p ∷ []) ≡ size_of_positions ps + position_size p
+add-position [] p = omega arith
+add-position (q ∷ ps) p = omega (arith, add-position ps p)
+
+add_step : (ss : List Step) (s : Step) → size_of_steps (ss ++ s ∷ []) ≡ size_of_steps ss + step_size s
+add_step [] s = omega arith
+add_step (q ∷ ss) s = omega (arith, add_step ss s)
+
+pub positions_more : (ps qs : List Position) (p : Position) → qs ≡ ps ++ p ∷ [] → size_of_positions qs ≡ size_of_positions ps + position_size p
+positions_more ps qs p e = ap size_of_positions e ∙ add-position ps p
+
+pub steps_more : (ss qs : List Step) (s : Step) → qs ≡ ss ++ s ∷ [] → size_of_steps qs ≡ size_of_steps ss + step_size s
+steps_more ss qs s e = ap size_of_steps e ∙ add_step ss s
+
+tests_size : (ts : List Test) → length (write_constraints (constraints ts)) ≡ 3 * length ts
+tests_size [] = omega arith
+tests_size (t ∷ ts) = omega (arith, tests_size ts)
+
+positions_size_lem : (ps : List Position) → length (write_invariants (map invariant_of ps)) ≡ size_of_positions ps
+positions_size_lem [] = omega arith
+positions_size_lem (p ∷ ps) =
+    omega (
+      arith,
+      length-append (write_constraints (invariant_of p)) (write_invariants (map invariant_of ps)),
+      tests_size (vec_items p.tests),
+      p.tests.ok.0,
+      positions_size_lem ps,
+    )
+
+steps_size_lem : (ss : List Step) → length (write_edges (map edge ss)) ≡ size_of_steps ss
+steps_size_lem [] = omega arith
+steps_size_lem (s ∷ ss) =
+    let resets = vec_items s.resets in
+    let rest = write_edges (map edge ss) in
+    omega (
+      arith,
+      length-append (write_constraints (edge s).guard) (length resets ∷ (resets ++ rest)),
+      length-append resets rest,
+      tests_size (vec_items s.tests),
+      s.tests.ok.0,
+      s.resets.ok.0,
+      steps_size_lem ss,
+    )
+
+-- the size of the parts is what their row has past its first two numbers
+pub row_size : (c : Clockwork) → length (write (automaton c)) ≡ 2 + parts_size c
+row_size c =
+    omega (
+      arith,
+      length-append (write_invariants (automaton c).invariants) (write_edges (automaton c).edges),
+      positions_size_lem (vec_items c.positions),
+      steps_size_lem (vec_items c.steps),
+    )

@@ -1,0 +1,29 @@
+-- How many numbers each part of a clockwork takes in the row.
+use Rattle.std.specs.Prelude.{ℕ, ◌+◌, ◌*◌, List, [], ◌∷◌, vec_items, vec_len}
+use Rattle.clockworks.specs.declared.parts.Position.{Position}
+use Rattle.clockworks.specs.declared.parts.Step.{Step}
+use Rattle.clockworks.specs.declared.parts.Clockwork.{Clockwork}
+use Rattle.drawing.specs.declared.reader.Comparison.{Comparison}
+use Rattle.drawing.specs.declared.reader.Comparison.TheVariants.{One, Equal}
+
+-- `=` stands for two tests
+abbrev pub test_count : Comparison → ℕ
+test_count (One r) = 1
+test_count Equal = 2
+
+abbrev pub position_size : Position → ℕ
+position_size p = 1 + 3 * vec_len p.tests
+
+abbrev pub step_size : Step → ℕ
+step_size s = 4 + 3 * vec_len s.tests + vec_len s.resets
+
+abbrev pub size_of_positions : List Position → ℕ
+size_of_positions [] = 0
+size_of_positions (p ∷ ps) = position_size p + size_of_positions ps
+
+abbrev pub size_of_steps : List Step → ℕ
+size_of_steps [] = 0
+size_of_steps (s ∷ ss) = step_size s + size_of_steps ss
+
+abbrev pub parts_size : Clockwork → ℕ
+parts_size c = size_of_positions (vec_items c.positions) + size_of_steps (vec_items c.steps)

@@ -1,0 +1,40 @@
+// How many numbers may still come in the row of a clockwork whose parts are being read.
+ghost use Rattle.std.specs.Prelude.{◌≡◌, ◌+◌, ◌<◌, MatchResult};
+ghost use Rattle.drawing.specs.declared.mistakes.Mistake.TheVariants.{Row};
+
+use crate::errors::Place;
+use crate::mistakes::Mistake;
+use clockworks::rows::MOST_WORDS;
+
+#[derive(Drop)]
+pub struct Room {
+    left: usize,
+}
+
+impl Room {
+    // The room of a row past the number of clocks and the number of positions.
+    pub fn new() -> Room
+        ensures { result.left + 2 ≡ 16384 }
+    {
+        Room {
+            left: MOST_WORDS - 2,
+        }
+    }
+
+    pub fn left(&self) -> usize
+        ensures { result ≡ self.now.left }
+    {
+        self.left
+    }
+
+    // Takes the room of the part at the place: if there is too little, that is a mistake, and nothing is taken.
+    pub fn take(&mut self, numbers: usize, place: Place) -> Result<(), Mistake>
+        ensures { MatchResult result (λ _. self.new.left + numbers ≡ self.old.left) (λ m. (self.old.left < numbers) × (self.new.left ≡ self.old.left) × (m ≡ Row place)) }
+    {
+        if numbers > self.left {
+            return Err(Mistake::Row(place));
+        }
+        self.left -= numbers;
+        Ok(())
+    }
+}
