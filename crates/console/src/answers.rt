@@ -4,24 +4,23 @@ ghost use Rattle.clockworks.specs.Meaning.{Adds};
 ghost use Rattle.console.specs.Answers.{answer_text, blanks, columns, line_text};
 
 use clocks::answers::Asked;
-use std::fmt;
-use std::fmt::Write;
+use std::alloc::AllocError;
 
 // Words, a number, and words.
-fn write_phrase(text: &mut String, before: &str, number: u32, after: &str) -> fmt::Result
+fn write_phrase(text: &mut String, before: &str, number: u32, after: &str) -> Result<(), AllocError>
     ensures { OnOk result (Adds (string_bytes text.old) (before.now ++ (decimal number ++ after.now)) (string_bytes text.new)) }
 {
     write!(text, "{before}{number}{after}")
 }
 
-fn write_words(text: &mut String, words: &str) -> fmt::Result
+fn write_words(text: &mut String, words: &str) -> Result<(), AllocError>
     ensures { OnOk result (Adds (string_bytes text.old) words.now (string_bytes text.new)) }
 {
     write!(text, "{words}")
 }
 
 // What an answer says, where so many kinds were allowed.
-pub fn write_answer(text: &mut String, asked: Asked, kinds: u32) -> fmt::Result
+pub fn write_answer(text: &mut String, asked: Asked, kinds: u32) -> Result<(), AllocError>
     ensures { OnOk result (Adds (string_bytes text.old) (answer_text kinds asked) (string_bytes text.new)) }
 {
     match asked {
@@ -35,7 +34,7 @@ pub fn write_answer(text: &mut String, asked: Asked, kinds: u32) -> fmt::Result
     }
 }
 
-fn write_blanks(text: &mut String, count: usize) -> fmt::Result
+fn write_blanks(text: &mut String, count: usize) -> Result<(), AllocError>
     ensures { OnOk result (Adds (string_bytes text.old) (blanks count) (string_bytes text.new)) }
 {
     for _ in 0..count {
@@ -58,7 +57,7 @@ pub fn write_line(
     width: usize,
     asked: Asked,
     kinds: u32,
-) -> fmt::Result
+) -> Result<(), AllocError>
     ensures { OnOk result (Adds (string_bytes text.old) (line_text kinds width name.now asked) (string_bytes text.new)) }
 {
     write_words(text, name)?;

@@ -7,8 +7,7 @@ ghost use Rattle.console.specs.Rows.{blank as isBlankByte, FirstBlank, NextWord,
 use crate::messages::Problem;
 use drawing::errors::Place;
 use rows::reader::MOST_WORDS;
-use std::alloc::Global;
-use std::fmt;
+use std::alloc::{AllocError, Global};
 
 // Why a text is no row of numbers. Words are counted from 0.
 #[derive(Clone, Copy)]
@@ -123,7 +122,7 @@ pub(crate) fn place_after(bytes: &[u8], count: usize) -> Place {
 }
 
 // The numbers with a blank between them.
-fn write_numbers(text: &mut String, row: &[u32]) -> fmt::Result
+fn write_numbers(text: &mut String, row: &[u32]) -> Result<(), AllocError>
     ensures { OnOk result (Adds (string_bytes text.old) (numbers_text row.now) (string_bytes text.new)) }
 {
     if row.is_empty() {

@@ -6,7 +6,6 @@ use crate::messages::Problem;
 use crate::nearness::is_nearly;
 use crate::numbers;
 use std::alloc::{AllocError, Global};
-use std::fmt::Write;
 
 // What a word that names no position is told with: a name that is nearly it, and what there is.
 #[derive(Drop)]
@@ -63,8 +62,8 @@ fn nearest(heap: Global, names: &[String], word: &str) -> Result<Option<String>,
 fn list(heap: Global, names: &[String], count: usize) -> Result<String, Problem> {
     let mut text = String::new(heap);
     for (place, name) in names.iter().enumerate() {
-        text.write_str(if place == 0 { "" } else { ", " })?;
-        text.write_str(name.as_str())?;
+        text.push_str(if place == 0 { "" } else { ", " })?;
+        text.push_str(name.as_str())?;
     }
     if names.is_empty() {
         let last = count.saturating_sub(1);

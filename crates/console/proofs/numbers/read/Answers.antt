@@ -10,28 +10,28 @@ loop-count-init c = (
   subst (λ (ns : List ℕ). Numbered c.args.bytes.now 0 ns) (sym c.new-numbers.ensures.items) no_number,
 )
 
-pub returns-in-default : goal.returns-in-default
-returns-in-default c = (
+pub returns-in_default : goal.returns-in_default
+returns-in_default c = (
   record {
     end = c.loop-count.at;
     numbers = vec_items c.loop-count.numbers;
     numbered = c.loop-count.invariant.3;
     many = c.loop-count.invariant.2;
-    start = c.next-word-start.result.0;
-    stop = c.next-word-start.result.1;
-    word = c.next-word-start.ensures;
+    start = c.next_word-start.result.0;
+    stop = c.next_word-start.result.1;
+    word = c.next_word-start.ensures;
     there = c.if-start-bytes.false;
   },
-  sym c.in-default.ensures,
+  sym c.in_default.ensures,
 )
 
 pub loop-count-preserved : goal.loop-count-preserved
 loop-count-preserved c =
-    let pushed = c.in-default-push.ensures.items in
+    let pushed = c.in_default-push.ensures.items in
     let longer : length (vec_items c.push.new.self) ≡ c.loop-count.count + 1 = ap length pushed ∙ (length-append (vec_items c.loop-count.numbers) (c.in-Some.number ∷ []) ∙ ap (λ (n : ℕ). n + 1) c.loop-count.invariant.2) in (
-      c.next-word-start.ensures.ends.within,
+      c.next_word-start.ensures.ends.within,
       omega arith,
       longer,
-      subst (λ (ns : List ℕ). Numbered c.args.bytes.now c.next-word-start.result.1 ns) (sym pushed)
-          (one_more c.loop-count.at c.next-word-start.result.0 c.next-word-start.result.1 c.in-Some.number (vec_items c.loop-count.numbers) c.loop-count.invariant.3 c.next-word-start.ensures c.if-start-bytes.false (sym c.in-Some.ensures)),
+      subst (λ (ns : List ℕ). Numbered c.args.bytes.now c.next_word-start.result.1 ns) (sym pushed)
+          (one_more c.loop-count.at c.next_word-start.result.0 c.next_word-start.result.1 c.in-Some.number (vec_items c.loop-count.numbers) c.loop-count.invariant.3 c.next_word-start.ensures c.if-start-bytes.false (sym c.in-Some.ensures)),
     )

@@ -6,6 +6,6 @@ use Rattle.console.proofs.numbers.write.Goals as goal
 
 pub returns : goal.returns
 returns c =
-    let end : Adds (string_bytes c.write-numbers.new.text) (codes "\n") (string_bytes c.write.new.self) = search rules in
-    (adds_more c.in-ok-write-numbers.ensures end).longer
+    let end : Adds (string_bytes c.write_numbers.new.text) (codes "\n") (string_bytes c.write.new.self) = search rules in
+    (adds_more c.in_ok-write_numbers.ensures end).longer
     ∙ ap (λ (l : List ℕ). l ++ (numbers_text c.args.row.now ++ codes "\n")) c.new-text.ensures.bytes

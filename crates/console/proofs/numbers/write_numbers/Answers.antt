@@ -14,14 +14,14 @@ loop-number-preserved c =
     let one : Adds (string_bytes c.loop-number.text) (codes " " ++ decimal (get_or (take (length c.args.row.now - 1) (drop 1 c.args.row.now)) c.loop-number.number-index 0)) (string_bytes c.write-in-loop-number.new.self) = search rules in
     sofar_more numbers_walk _ _ _ _ _ _ 0 c.loop-number-test.true refl c.loop-number.invariant one refl
 
-pub returns-then-is-empty : goal.returns-then-is-empty
-returns-then-is-empty c =
-    let none : length c.args.row.now < 1 = omega (arith, true-eqb _ 0 c.if-is-empty.ensures) in
+pub returns-then-is_empty : goal.returns-then-is_empty
+returns-then-is_empty c =
+    let none : length c.args.row.now < 1 = omega (arith, true-eqb _ 0 c.if-is_empty.ensures) in
     adds_same (sym (numbers-none _ none)) adds_none
 
 pub returns : goal.returns
 returns c =
     let first : Adds (string_bytes c.args.text.now) (decimal (get_or c.args.row.now 0 0)) (string_bytes c.write.new.self) = search rules in
-    let some : 1 ≤ length c.args.row.now = omega (arith, false-eqb _ 0 c.if-is-empty.ensures) in
+    let some : 1 ≤ length c.args.row.now = omega (arith, false-eqb _ 0 c.if-is_empty.ensures) in
     let rest = (sofar_all numbers_walk _ _ _ _ c.loop-number-test.false c.loop-number.invariant).0 in
     adds_same (sym (numbers_first _ some)) (adds_more first (adds_same (ap more_numbers (take_rest c.args.row.now 1)) rest))

@@ -10,8 +10,8 @@ pub returns-in-Some : goal.returns-in-Some
 returns-in-Some c =
     let finds = c.in-Some.ensures.lookup in
     let named = read_map string_bytes c.args.names.now c.args.position c.in-Some.name.now (decimal c.args.position) finds.3.0 finds.1 in
-    IfOk-weaker c.from-str.result (λ t. string_bytes t ≡ c.as-str.result.now) (λ t. string_bytes t ≡ name_text (map string_bytes c.args.names.now) c.args.position)
-    (λ t e. e ∙ (c.as-str.ensures.value ∙ sym named)) c.from-str.ensures.ok
+    IfOk-weaker c.from_str.result (λ t. string_bytes t ≡ c.as_str.result.now) (λ t. string_bytes t ≡ name_text (map string_bytes c.args.names.now) c.args.position)
+    (λ t e. e ∙ (c.as_str.ensures.value ∙ sym named)) c.from_str.ensures.ok
 
 pub returns-in-None : goal.returns-in-None
 returns-in-None c =
