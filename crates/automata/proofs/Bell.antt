@@ -1,7 +1,7 @@
 -- The bell's row, its run to two and a half, and the whole part of that time.
-use mathlib.Core.Path.{◌≡◌, refl}
-use mathlib.Core.List.{List, [], ◌∷◌}
-use Prim.Native.Nat.{ℕ, ◌*◌, ◌≤◌, ◌<◌}
+use mathlib.Core.Path.{refl}
+use mathlib.Core.List.{[], ◌∷◌}
+use Prim.Native.Nat.{◌*◌, ◌≤◌, ◌<◌}
 use native.Mathlib.Omega.{arith}
 use Rattle.automata.specs.Times.{zero_time}
 use Rattle.automata.specs.Runs.{Reached, start, next, delay, take}

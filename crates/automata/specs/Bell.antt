@@ -1,5 +1,5 @@
 -- A worked example: a bell that can be struck between 2 and 3.
-use Rattle.std.specs.Prelude.{◌≡◌, List, [], ◌∷◌, ℕ}
+use Rattle.std.specs.Prelude.{◌≡◌, [], ◌∷◌}
 use Rattle.automata.specs.Times.{Time, zero_time, whole}
 use Rattle.automata.specs.Automata.{Automaton, at_most, above}
 use Rattle.automata.specs.Runs.{Reached}

@@ -1,11 +1,10 @@
 -- The words of the parts of a row.
-use Rattle.std.proofs.Common.{◌≡◌, ℕ, zero, suc, ◌+◌, ◌-◌, ◌*◌, ◌/◌, ◌<◌, ◌≤◌, List, [], ◌∷◌, ◌++◌, length, get_or, take, drop, sym, refl, ap, ◌∙◌, subst, append_assoc, add-one, arith, length-append, length-drop, drop_of_length-le, drop-cons, drop-drop, drop_at}
-use mathlib.Core.Option.{Option, some, none}
-use lib.Seq.{drop-append_seam, take-append-le}
-use Rattle.automata.specs.Automata.{nth, Relation, at_most, below, at_least, above, Constraint, Edge}
-use Rattle.automata.specs.Rows.{code, write_constraints, write_invariants, write_edges}
-use Rattle.rows.specs.Parse.{relation_of, constraint}
-use Rattle.rows.specs.Parts.{edge_words}
+use Rattle.std.proofs.Common.{◌≡◌, ℕ, zero, suc, ◌+◌, ◌-◌, ◌*◌, ◌<◌, ◌≤◌, List, [], ◌∷◌, ◌++◌, length, get_or, take, drop, sym, refl, ap, ◌∙◌, subst, append_assoc, add-one, arith, length-append, length-drop, drop-cons, drop-drop}
+use mathlib.Core.Option.{some, none}
+use lib.Seq.{drop-append_seam}
+use Rattle.automata.specs.Automata.{nth, Relation, Constraint}
+use Rattle.automata.specs.Rows.{code, write_constraints, write_invariants}
+use Rattle.rows.specs.Parse.{constraint}
 use Rattle.rows.proofs.Round.{relation_of-code}
 
 pub nth-behind : {A : Type 0} (xs : List A) (i : ℕ) → length xs ≤ i → nth xs i ≡ none

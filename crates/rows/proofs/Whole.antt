@@ -1,15 +1,15 @@
 -- A whole row: what its parts say of it.
-use Rattle.std.proofs.Common.{◌≡◌, ℕ, zero, suc, ◌+◌, ◌<◌, ◌≤◌, Bool, true, false, cond, ◌&&◌, ltb, leb, List, [], ◌∷◌, ◌++◌, length, get_or, drop, Ok, Err, Result, sym, refl, ap, ◌∙◌, subst, arith, le-leb, leb-true}
+use Rattle.std.proofs.Common.{◌≡◌, ℕ, ◌+◌, ◌<◌, ◌≤◌, Bool, true, false, cond, ◌&&◌, leb, List, [], ◌∷◌, ◌++◌, length, get_or, drop, Ok, Err, Result, sym, refl, ap, ◌∙◌, subst, arith, le-leb, leb-true}
 use mathlib.Core.Option.{Option, some, none}
 use borrow.Author.Tests.{lt-leb}
 use Rattle.automata.specs.Automata.{Constraint, Edge, Automaton}
 use Rattle.automata.specs.Rows.{Reads, write_invariants, write_edges, fine_invariants, fine_edges}
 use Rattle.rows.specs.declared.refusals.Refusal.{Refusal}
 use Rattle.rows.specs.declared.views.Automaton as view
-use Rattle.rows.specs.Parse.{Outcome, and_then, all_relations, parse_conjunction, parse_invariants, parse_resets, parse_edge, parse_edges, parse}
+use Rattle.rows.specs.Parse.{all_relations, parse_conjunction, parse_invariants, parse_resets, parse_edge, parse_edges, parse}
 use Rattle.rows.specs.Reading.{Wrong, Tells, ReadPost}
-use Rattle.rows.specs.Views.{Made, Views}
-use Rattle.rows.proofs.Round.{both, joined, complete, sound, one_automaton, Written, written_invariants, written_edges}
+use Rattle.rows.specs.Views.{Made}
+use Rattle.rows.proofs.Round.{joined, complete, sound, one_automaton, Written, written_invariants, written_edges}
 use Rattle.rows.proofs.Walking.{edge-resets, edge-read}
 
 -- an edge ends where its resets end

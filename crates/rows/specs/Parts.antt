@@ -1,9 +1,9 @@
 -- What the parts of a row say, against the automaton that it is the writing of.
-use Rattle.std.specs.Prelude.{◌≡◌, ℕ, ◌≤◌, List, [], ◌∷◌, ◌++◌, length, drop, Some, None, Option}
+use Rattle.std.specs.Prelude.{◌≡◌, ℕ, ◌≤◌, List, ◌∷◌, ◌++◌, length, drop, Some, None, Option}
 use Rattle.std.proofs.Math.Option as option
 use Rattle.std.specs.Borrow.{Bor}
 use Rattle.automata.specs.Automata as automata
-use Rattle.automata.specs.Rows.{write_constraints, write_edges}
+use Rattle.automata.specs.Rows.{write_constraints}
 use Rattle.rows.specs.declared.constraints.Relation.{Relation}
 use Rattle.rows.specs.declared.constraints.Relation.TheVariants.{AtMost, Below, AtLeast, Above}
 use Rattle.rows.specs.declared.constraints.Constraint.{Constraint}

@@ -1,5 +1,5 @@
 -- What the functions that go over a row tell: where a part ends, or which rule the row breaks and at which word.
-use Rattle.std.specs.Prelude.{◌≡◌, ℕ, suc, ◌+◌, ◌<◌, ◌≤◌, List, length, drop, Ok, Err, Result, slice_index}
+use Rattle.std.specs.Prelude.{◌≡◌, ℕ, suc, ◌<◌, ◌≤◌, List, length, drop, Ok, Err, Result, slice_index}
 use Rattle.std.proofs.Math.Option.{some, none}
 use Rattle.automata.specs.Automata as automata
 use Rattle.automata.specs.Rows.{Reads}

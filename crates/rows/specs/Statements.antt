@@ -1,6 +1,6 @@
 -- The theorems about reading rows.
 use Rattle.std.specs.Prelude.{◌≡◌, ℕ, List}
-use Rattle.std.proofs.Math.Option.{Option, some, none}
+use Rattle.std.proofs.Math.Option.{some}
 use Rattle.automata.specs.Automata.{Automaton}
 use Rattle.automata.specs.Rows.{Reads}
 use Rattle.automata.specs.Statements.{OneAutomaton}

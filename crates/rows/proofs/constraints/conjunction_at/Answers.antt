@@ -1,5 +1,5 @@
 -- The part begins behind the number of constraints, and has three words for each.
-use Rattle.std.proofs.Common.{◌≡◌, ℕ, ◌+◌, ◌*◌, ◌<◌, ◌≤◌, List, ◌++◌, length, get_or, take, drop, sym, ap, ◌∙◌, subst, arith}
+use Rattle.std.proofs.Common.{◌++◌, length, arith}
 use Rattle.automata.specs.Rows.{write_constraints}
 use Rattle.rows.proofs.Parts.{length-constraints, starts_within, first-is, counted, counted_within}
 use Rattle.rows.proofs.constraints.conjunction_at.Goals as goal

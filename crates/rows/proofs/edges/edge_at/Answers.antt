@@ -1,5 +1,5 @@
 -- The parts of an edge stand one behind the other.
-use Rattle.std.proofs.Common.{◌≡◌, ℕ, ◌+◌, ◌<◌, ◌≤◌, List, ◌∷◌, ◌++◌, length, get_or, drop, arith}
+use Rattle.std.proofs.Common.{◌≡◌, ℕ, ◌+◌, ◌≤◌, List, ◌∷◌, ◌++◌, length, get_or, drop, arith}
 use Rattle.automata.specs.Automata.{Edge}
 use Rattle.automata.specs.Rows.{write_constraints}
 use Rattle.rows.specs.Parts.{edge_words}

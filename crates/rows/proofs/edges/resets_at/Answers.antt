@@ -1,5 +1,5 @@
 -- The part begins behind the number of clocks, and has a word for each.
-use Rattle.std.proofs.Common.{◌≡◌, ℕ, ◌+◌, ◌*◌, ◌<◌, ◌≤◌, List, ◌++◌, length, get_or, take, drop, sym, ap, ◌∙◌, subst, arith}
+use Rattle.std.proofs.Common.{◌++◌, length, arith}
 use Rattle.rows.proofs.Parts.{starts_within, first-is, counted, counted_within}
 use Rattle.rows.proofs.edges.resets_at.Goals as goal
 

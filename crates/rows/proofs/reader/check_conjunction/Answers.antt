@@ -1,9 +1,8 @@
 -- The constraints are read one by one; the first that is refused refuses all.
-use Rattle.std.proofs.Common.{◌≡◌, ℕ, ◌+◌, ◌-◌, ◌<◌, ◌≤◌, List, [], length, get_or, drop, sym, refl, subst, arith}
+use Rattle.std.proofs.Common.{[], drop, refl, arith}
 use native.Mathlib.Nat.{sub-zero}
 use Rattle.std.proofs.lemmas.Result.{err_from_is_err_and}
-use Rattle.rows.specs.Parse.{parse_constraints, parse_conjunction}
-use Rattle.rows.specs.Reading.{Leads}
+use Rattle.rows.specs.Parse.{parse_constraints}
 use Rattle.rows.proofs.Walking.{conjunction_ends, conjunction_starts, one_more, none_more, no_more}
 use Rattle.rows.proofs.reader.check_conjunction.Goals as goal
 

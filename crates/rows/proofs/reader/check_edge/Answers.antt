@@ -1,5 +1,5 @@
 -- An edge is refused where one of its parts is; otherwise it ends where its resets end.
-use Rattle.std.proofs.Common.{◌+◌, ◌<◌, ◌≤◌, length, drop, arith}
+use Rattle.std.proofs.Common.{◌+◌, ◌<◌, ◌≤◌, length, arith}
 use Rattle.std.proofs.lemmas.Result.{err_from_is_err_and}
 use Rattle.rows.proofs.Walking.{edge-ends, edge-source, edge-target, edge-guard}
 use Rattle.rows.proofs.Whole.{edge-tells}

@@ -1,5 +1,5 @@
 -- The edges are read one by one; the first that is refused refuses all.
-use Rattle.std.proofs.Common.{◌≡◌, ℕ, ◌<◌, List, [], length, drop, refl, arith, length-drop}
+use Rattle.std.proofs.Common.{◌<◌, [], length, drop, arith, length-drop}
 use Rattle.std.proofs.lemmas.Result.{err_from_is_err_and}
 use Rattle.rows.proofs.Walking.{leads_refl, leads_trans, edges_none, edges_more, edges_end}
 use Rattle.rows.proofs.reader.check_edges.Goals as goal

@@ -1,5 +1,5 @@
 -- The invariants are read one by one; the first that is refused refuses all.
-use Rattle.std.proofs.Common.{◌≡◌, ℕ, ◌+◌, ◌-◌, ◌<◌, ◌≤◌, List, [], length, drop, refl, arith}
+use Rattle.std.proofs.Common.{[], drop, refl, arith}
 use native.Mathlib.Nat.{sub-zero}
 use Rattle.std.proofs.lemmas.Result.{err_from_is_err_and}
 use Rattle.rows.specs.Parse.{parse_invariants}

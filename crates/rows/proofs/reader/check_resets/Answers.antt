@@ -1,9 +1,8 @@
 -- The clocks are read one by one; the first that is refused refuses all.
-use Rattle.std.proofs.Common.{◌≡◌, ℕ, ◌+◌, ◌-◌, ◌<◌, ◌≤◌, List, [], length, get_or, drop, sym, refl, subst, arith}
+use Rattle.std.proofs.Common.{[], drop, refl, arith}
 use native.Mathlib.Nat.{sub-zero}
 use Rattle.std.proofs.lemmas.Result.{err_from_is_err_and}
-use Rattle.rows.specs.Parse.{parse_clocks, parse_resets}
-use Rattle.rows.specs.Reading.{Leads}
+use Rattle.rows.specs.Parse.{parse_clocks}
 use Rattle.rows.proofs.Walking.{resets-end, resets-start, one_more, none_more, no_more}
 use Rattle.rows.proofs.reader.check_resets.Goals as goal
 

@@ -1,7 +1,7 @@
 -- The three words at a place are those of the constraint there.
-use Rattle.std.proofs.Common.{◌≡◌, ℕ, ◌+◌, ◌*◌, ◌<◌, ◌≤◌, List, length, get_or, sym, ap, ◌∙◌, subst, arith}
+use Rattle.std.proofs.Common.{◌≡◌, ℕ, ◌+◌, ◌*◌, List, length, get_or, sym, ap, ◌∙◌, subst, arith}
 use mathlib.Core.Option.{some}
-use Rattle.automata.specs.Automata.{nth, Relation, Constraint}
+use Rattle.automata.specs.Automata.{nth, Relation}
 use Rattle.rows.specs.Parse.{constraint}
 use Rattle.rows.proofs.Parts.{length-constraints, nth-behind, constraint-at}
 use Rattle.rows.proofs.constraints.Conjunction.get.Goals as goal

@@ -1,6 +1,6 @@
 -- Each turn skips the invariant of one location; the one asked for stands where they end.
-use Rattle.std.proofs.Common.{◌≡◌, ℕ, ◌+◌, ◌<◌, ◌≤◌, List, ◌∷◌, ◌++◌, length, drop, sym, refl, ap, ◌∙◌, subst, arith}
-use mathlib.Core.Option.{some, none}
+use Rattle.std.proofs.Common.{◌≡◌, ℕ, ◌+◌, ◌<◌, List, ◌∷◌, ◌++◌, length, drop, sym, ap, ◌∙◌, subst, arith}
+use mathlib.Core.Option.{some}
 use Rattle.automata.specs.Automata.{nth, Constraint, Automaton}
 use Rattle.automata.specs.Rows.{write_constraints, write_invariants, write_edges}
 use Rattle.rows.specs.declared.views.Automaton as view

@@ -1,5 +1,5 @@
 -- The next edge is the one whose words begin there.
-use Rattle.std.proofs.Common.{◌≡◌, ℕ, ◌-◌, ◌<◌, ◌≤◌, List, [], ◌∷◌, length, drop, Some, None, Option, sym, refl, ap, subst, arith, length-drop, rules, MatchOption}
+use Rattle.std.proofs.Common.{◌≡◌, ℕ, ◌<◌, ◌≤◌, List, [], ◌∷◌, length, drop, Some, sym, refl, ap, subst, arith, length-drop, rules}
 use Rattle.automata.specs.Automata as automata
 use Rattle.automata.specs.Rows.{write_edges}
 use Rattle.rows.specs.declared.edges.Edge.{Edge}
