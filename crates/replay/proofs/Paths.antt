@@ -1,6 +1,6 @@
 -- Lists of moves, followed one after the other.
 use Rattle.std.proofs.Common.{◌≡◌, ℕ, ◌+◌, ◌<◌, ◌≤◌, Bool, true, false, cond, List, [], ◌∷◌, ◌++◌, sym, refl, ap, ◌∙◌, subst, inl, inr, arith}
-use mathlib.Core.Option.{some, none}
+use mathlib.Core.Option.{some}
 use Rattle.automata.specs.Automata.{nth, Edge, Automaton}
 use Rattle.automata.specs.Runs.{State, Reached, start, next}
 use Rattle.regions.specs.Moves.{among}
