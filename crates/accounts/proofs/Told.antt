@@ -1,5 +1,5 @@
 -- A text that is written move by move, and in a line clock by clock.
-use Rattle.std.proofs.Common.{◌≡◌, ℕ, suc, ◌+◌, ◌<◌, ◌≤◌, min, List, [], ◌∷◌, ◌++◌, length, get_or, take, codes, sym, refl, ap, ◌∙◌, subst, append-nil, add-one, arith}
+use Rattle.std.proofs.Common.{◌≡◌, ℕ, suc, ◌+◌, ◌<◌, ◌≤◌, min, List, [], ◌∷◌, ◌++◌, length, get_or, take, codes, sym, refl, ap, ◌∙◌, subst, append-nil, add-one}
 use Rattle.std.proofs.lemmas.List.{take_more, take_all}
 use Rattle.automata.specs.Automata.{Automaton}
 use Rattle.clockworks.specs.Meaning.{Adds}
@@ -10,7 +10,7 @@ use Rattle.replay.specs.declared.moments.Moment.{Moment}
 use Rattle.replay.specs.Meaning.{clock_of}
 use Rattle.replay.specs.Outcomes.{AtStart, Advanced}
 use Rattle.accounts.specs.declared.columns.Widths.{Widths}
-use Rattle.accounts.specs.Lines.{PartsText, name_of, MoveText, padded, cell_of_clock, ClocksText, no_clock, next_clock, LineText, Lines, no_line, next_line}
+use Rattle.accounts.specs.Lines.{PartsText, name_of, MoveText, padded, cell_of_clock, ClocksText, next_clock, LineText, Lines, no_line, next_line}
 
 pub adds_none : {xs : List ℕ} → Adds xs [] xs
 adds_none {xs = xs} = record { longer = sym (append-nil xs) }

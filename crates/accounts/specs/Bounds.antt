@@ -1,5 +1,5 @@
 -- The text of bounds on clocks and on their differences.
-use Rattle.std.specs.Prelude.{◌≡◌, ℕ, zero, suc, ◌+◌, Bool, true, false, cond, not, ◌&&◌, List, [], ◌++◌, ℤ, neg_ℤ, codes}
+use Rattle.std.specs.Prelude.{ℕ, zero, suc, ◌+◌, Bool, false, cond, not, ◌&&◌, List, [], ◌++◌, neg_ℤ, codes}
 use Rattle.std.specs.Int.Signed.{le_z}
 use Rattle.std.specs.Fmt.{signed_decimal}
 use Rattle.squares.specs.declared.bounds.Bound.{Bound}

@@ -4,7 +4,7 @@ ghost use Rattle.clockworks.specs.Meaning.{Adds};
 ghost use Rattle.accounts.specs.Lines.{blanks, padded};
 
 use replay::moments::MOST_CLOCKS;
-use std::fmt;
+use std::alloc::AllocError;
 
 // How wide each column of a run is, in characters.
 #[derive(Clone, Copy)]
@@ -15,7 +15,7 @@ pub struct Widths {
     pub clocks: [usize; MOST_CLOCKS],
 }
 
-fn write_blanks(text: &mut String, count: usize) -> fmt::Result
+fn write_blanks(text: &mut String, count: usize) -> Result<(), AllocError>
     ensures { OnOk result (Adds (string_bytes text.old) (blanks count) (string_bytes text.new)) }
 {
     for _ in 0..count {
@@ -25,7 +25,7 @@ fn write_blanks(text: &mut String, count: usize) -> fmt::Result
 }
 
 // A cell, and blanks up to the width of its column. A wider cell is not cut.
-pub fn write_padded(text: &mut String, cell: &str, width: usize) -> fmt::Result
+pub fn write_padded(text: &mut String, cell: &str, width: usize) -> Result<(), AllocError>
     ensures { OnOk result (Adds (string_bytes text.old) (padded width cell.now) (string_bytes text.new)) }
 {
     let columns = cell.chars().count();

@@ -4,11 +4,10 @@ ghost use Rattle.accounts.specs.Lines.{PartsText, MoveText};
 
 use crate::fractions::write_parts;
 use replay::moments::Move;
-use std::alloc::Global;
-use std::fmt;
+use std::alloc::{AllocError, Global};
 
 // `wait 5/3` or `step 0`.
-pub fn move_cell(heap: Global, denominator: u64, by: Move) -> Result<String, fmt::Error>
+pub fn move_cell(heap: Global, denominator: u64, by: Move) -> Result<String, AllocError>
     ensures { IfOk result (λ cell. MoveText denominator by (string_bytes cell)) }
 {
     let mut cell = String::new(heap);
@@ -26,7 +25,7 @@ pub fn move_cell(heap: Global, denominator: u64, by: Move) -> Result<String, fmt
 }
 
 // `at 5/3`.
-pub fn time_cell(heap: Global, denominator: u64, time: u64) -> Result<String, fmt::Error>
+pub fn time_cell(heap: Global, denominator: u64, time: u64) -> Result<String, AllocError>
     ensures { IfOk result (λ cell. (words : List ℕ) × PartsText denominator time words × (string_bytes cell ≡ codes "at " ++ words)) }
 {
     let mut cell = String::new(heap);
@@ -41,7 +40,7 @@ pub fn clock_cell(
     name: &str,
     denominator: u64,
     value: u64,
-) -> Result<String, fmt::Error>
+) -> Result<String, AllocError>
     ensures { IfOk result (λ cell. (words : List ℕ) × PartsText denominator value words × (string_bytes cell ≡ (name.now ++ codes " = ") ++ words)) }
 {
     let mut cell = String::new(heap);

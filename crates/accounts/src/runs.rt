@@ -12,8 +12,7 @@ use crate::pieces::{clock_cell, move_cell, time_cell};
 use replay::moments::{Fault, MOST_CLOCKS, Moment, Move};
 use replay::runs::{advance, begin};
 use rows::views::Automaton;
-use std::alloc::Global;
-use std::fmt;
+use std::alloc::{AllocError, Global};
 
 // Why a run is not told.
 #[derive(Clone, Copy)]
@@ -23,8 +22,8 @@ pub enum Untold {
 }
 
 // Only want of memory keeps a text from being written.
-impl From<fmt::Error> for Untold {
-    fn from(_e: fmt::Error) -> Untold {
+impl From<AllocError> for Untold {
+    fn from(_e: AllocError) -> Untold {
         Untold::Memory
     }
 }
@@ -51,7 +50,7 @@ fn widths_with(
     denominator: u64,
     by: Move,
     after: &Moment,
-) -> Result<Widths, fmt::Error> {
+) -> Result<Widths, AllocError> {
     let mut clocks = widths.clocks;
     for clock in 0..names.clocks.len().min(MOST_CLOCKS) {
         let name = name_of(names.clocks, clock);
@@ -112,7 +111,7 @@ fn write_clocks(
     widths: &Widths,
     denominator: u64,
     moment: &Moment,
-) -> fmt::Result
+) -> Result<(), AllocError>
     ensures { OnOk result ((words : List ℕ) × ClocksText string_bytes names.now widths.now denominator moment.now (min (length names.now) 8) words × Adds (string_bytes text.old) words (string_bytes text.new)) }
 {
     for clock in 0..names.len().min(MOST_CLOCKS) {
@@ -133,7 +132,7 @@ fn write_line(
     denominator: u64,
     by: Move,
     after: &Moment,
-) -> fmt::Result
+) -> Result<(), AllocError>
     ensures { OnOk result ((line : List ℕ) × LineText string_bytes names.entry.clocks.now names.entry.positions.now widths.now denominator by after.now line × Adds (string_bytes text.old) line (string_bytes text.new)) }
 {
     let moved = move_cell(heap, denominator, by)?;

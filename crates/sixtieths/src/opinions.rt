@@ -1,6 +1,6 @@
 // The second opinion on an automaton: for each position the answer, and what the grid says of it.
 use crate::comparison::{Finding, Kind, judge, kind_of};
-use crate::search::search;
+use crate::grid_search::search;
 use crate::trails::{Followed, follow, moves_to};
 use crate::visits::{Arrival, Fault, Visits};
 use crate::ways::find_ways;

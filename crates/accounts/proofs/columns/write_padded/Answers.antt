@@ -9,6 +9,6 @@ use Rattle.accounts.proofs.columns.write_padded.Goals as goal
 pub returns : goal.returns
 returns c =
     let wide : c.count-columns.result ≡ length (chars c.args.cell.now) = search (rules, chars_from_encodes) in
-    let gap : c.saturating-sub.result ≡ c.args.width - length (chars c.args.cell.now) = c.saturating-sub.ensures ∙ ap (λ (n : ℕ). c.args.width - n) wide in
+    let gap : c.saturating_sub.result ≡ c.args.width - length (chars c.args.cell.now) = c.saturating_sub.ensures ∙ ap (λ (n : ℕ). c.args.width - n) wide in
     let cell : Adds (string_bytes c.args.text.now) c.args.cell.now (string_bytes c.write.new.self) = search rules in
-    adds_more cell (adds_same (ap blanks gap) c.in-ok-write-blanks.ensures)
+    adds_more cell (adds_same (ap blanks gap) c.in_ok-write_blanks.ensures)

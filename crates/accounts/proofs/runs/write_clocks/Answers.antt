@@ -12,6 +12,6 @@ pub loop-clock-preserved : goal.loop-clock-preserved
 loop-clock-preserved c =
     let gap : Adds (string_bytes c.loop-clock.text) (codes "  ") (string_bytes c.write.new.self) = search rules in
     let width = get_or c.args.widths.now.clocks c.loop-clock.clock 0 in
-    let more = adds_same (ap (padded width) c.as-str.ensures.value) c.in-ok-write-padded.ensures in
+    let more = adds_same (ap (padded width) c.as_str.ensures.value) c.in_ok-write_padded.ensures in
     clocks_more string_bytes c.args.names.now c.args.widths.now c.args.denominator c.args.moment.now (string_bytes c.args.text.now)
-    c.loop-clock.clock _ _ c.loop-clock.invariant c.name-of-name.ensures c.in-ok-cell.ensures gap more
+    c.loop-clock.clock _ _ c.loop-clock.invariant c.name_of-name.ensures c.in_ok-cell.ensures gap more

@@ -7,11 +7,11 @@ use Rattle.accounts.proofs.runs.write_line.Goals as goal
 
 pub returns : goal.returns
 returns c =
-    let gap : Adds (string_bytes c.write-padded.new.text) (codes "  ") (string_bytes c.write.new.self) = search rules in
-    let gap-2 : Adds (string_bytes c.write-padded-2.new.text) (codes "  ") (string_bytes c.write-2.new.self) = search rules in
-    let end : Adds (string_bytes c.write-clocks.new.text) (codes "\n") (string_bytes c.write-3.new.self) = search rules in
-    let moved = adds_same (ap (padded c.args.widths.now.moves) c.as-str.ensures.value) c.in-ok-write-padded.ensures in
-    let timed = adds_same (ap (padded c.args.widths.now.times) c.as-str-2.ensures.value) c.in-ok-write-padded-2.ensures in
+    let gap : Adds (string_bytes c.write_padded.new.text) (codes "  ") (string_bytes c.write.new.self) = search rules in
+    let gap-2 : Adds (string_bytes c.write_padded-2.new.text) (codes "  ") (string_bytes c.write-2.new.self) = search rules in
+    let end : Adds (string_bytes c.write_clocks.new.text) (codes "\n") (string_bytes c.write-3.new.self) = search rules in
+    let moved = adds_same (ap (padded c.args.widths.now.moves) c.as_str.ensures.value) c.in_ok-write_padded.ensures in
+    let timed = adds_same (ap (padded c.args.widths.now.times) c.as_str-2.ensures.value) c.in_ok-write_padded-2.ensures in
     line_written string_bytes c.args.names.clocks.now c.args.names.positions.now c.args.widths.now c.args.denominator
-    c.args.by c.args.after.now _ _ _ c.in-ok-moved.ensures c.in-ok-time.ensures c.name-of-position.ensures
-    moved gap timed gap-2 c.in-ok-write-padded-3.ensures c.in-ok-write-clocks.ensures end
+    c.args.by c.args.after.now _ _ _ c.in_ok-moved.ensures c.in_ok-time.ensures c.name_of-position.ensures
+    moved gap timed gap-2 c.in_ok-write_padded-3.ensures c.in_ok-write_clocks.ensures end

@@ -6,14 +6,14 @@ pub loop-next-init : goal.loop-next-init
 loop-next-init c =
     λ a views.
     lines_none string_bytes c.args.names.clocks.now c.args.names.positions.now c.args.widths.now c.args.denominator a c.args.moves.now
-    c.in-ok-moment.moment c.requires (c.in-ok-moment.ensures a views).0
+    c.in_ok-moment.moment c.requires (c.in_ok-moment.ensures a views).0
 
 pub loop-next-preserved : goal.loop-next-preserved
 loop-next-preserved c =
     λ a views.
     lines_more string_bytes c.args.names.clocks.now c.args.names.positions.now c.args.widths.now c.args.denominator a c.args.moves.now
-    c.loop-next.next-index c.loop-next.moment c.in-ok-moment-2.moment c.loop-next-test.true
-    (c.loop-next.invariant a views) (c.in-ok-moment-2.ensures a views) c.in-ok-write-line.ensures
+    c.loop-next.next-index c.loop-next.moment c.in_ok-moment-2.moment c.loop-next-test.true
+    (c.loop-next.invariant a views) (c.in_ok-moment-2.ensures a views) c.in_ok-write_line.ensures
 
 pub returns : goal.returns
 returns c =
