@@ -59,7 +59,7 @@ module _ {X : Type 0} (text : X → List ℕ) (clocks positions : List X) (w : W
     record {
       move_words = moved;
       time_words = timed;
-      clock-words = clocked;
+      clock_words = clocked;
       move_is = move_is;
       time_is = time_is;
       clocks_are = clocks_are;

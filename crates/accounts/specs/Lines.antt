@@ -54,15 +54,15 @@ pub data ClocksText {X : Type 0} (text : X → List ℕ) (names : List X) (w : W
 pub record LineText {X : Type 0} (text : X → List ℕ) (clocks positions : List X) (w : Widths) (d : ℕ) (by : Move) (after : Moment) (line : List ℕ) : Type 0 where
   pub move_words : List ℕ
   pub time_words : List ℕ
-  pub clock-words : List ℕ
+  pub clock_words : List ℕ
   pub move_is : MoveText d by move_words
   pub time_is : PartsText d after.time time_words
-  pub clocks_are : ClocksText text clocks w d after (min (length clocks) 8) clock-words
+  pub clocks_are : ClocksText text clocks w d after (min (length clocks) 8) clock_words
   pub spelt : line
       ≡ padded w.moves move_words
       ++ (codes "  "
       ++ (padded w.times (codes "at " ++ time_words)
-      ++ (codes "  " ++ (padded w.positions (name_of text positions after.location.0) ++ (clock-words ++ codes "\n")))))
+      ++ (codes "  " ++ (padded w.positions (name_of text positions after.location.0) ++ (clock_words ++ codes "\n")))))
 
 -- the lines of the moves so far, from the start, and the moment after them
 pub data Lines (a : Automaton) {X : Type 0} (text : X → List ℕ) (clocks positions : List X) (w : Widths) (d : ℕ) : List Move → Moment → List ℕ → Type 0 where

@@ -61,8 +61,27 @@ fn as_text(bytes: &[u8]) -> Result<&str, Refusal> {
 fn read_parts(heap: Global, text: &str) -> Result<(Names, Clockwork), Mistake> {
     characters::check_all(text)?;
     let names = names::declare_all(heap, text)?;
-    let clockwork = reader::read_all(heap, &names, text)?;
-    Ok((names, clockwork))
+    let named = !names.clocks.is_empty() && !names.positions.is_empty();
+    match reader::read_all(heap, &names, text) {
+        Ok(clockwork) => Ok((names, clockwork)),
+        Err(mistake) => {
+            let Mistake::Row(_) = mistake else {
+                return Err(mistake);
+            };
+            if named {
+                return Err(mistake);
+            }
+            // That no clock or no position is named is told first.
+            Ok((
+                names,
+                Clockwork {
+                    clocks: 0,
+                    positions: Vec::new(heap),
+                    steps: Vec::new(heap),
+                },
+            ))
+        }
+    }
 }
 
 // The row of what was read, with its names.

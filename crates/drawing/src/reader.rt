@@ -282,7 +282,23 @@ fn read_line(
     Ok(())
 }
 
-// The parts of the clockwork that the text draws. Its clocks and positions are numbered as in `names`.
+// A mistake in a line of the text, if there is one, however many numbers its parts have.
+fn check_lines(heap: Global, names: &Names, text: &str) -> Result<(), Mistake> {
+    for (index, line) in text.lines().enumerate() {
+        let mut cursor = Cursor::new(index.saturating_add(1), line);
+        let mut room = Room::boundless();
+        let mut parts = Clockwork {
+            clocks: 0,
+            positions: Vec::new(heap),
+            steps: Vec::new(heap),
+        };
+        read_line(heap, names, &mut cursor, &mut room, &mut parts)?;
+    }
+    Ok(())
+}
+
+// The parts of the clockwork that the text draws. Its clocks and positions are numbered as in `names`. That they have too many
+// numbers is told only where no line has another mistake.
 pub fn read_all(heap: Global, names: &Names, text: &str) -> Result<Clockwork, Mistake>
     ensures { IfOk result (λ clockwork. length (write (automaton clockwork)) ≤ 16384) }
 {
@@ -294,7 +310,13 @@ pub fn read_all(heap: Global, names: &Names, text: &str) -> Result<Clockwork, Mi
     };
     for (index, line) in text.lines().enumerate() {
         let mut cursor = Cursor::new(index.saturating_add(1), line);
-        read_line(heap, names, &mut cursor, &mut room, &mut clockwork)?;
+        let Err(mistake) = read_line(heap, names, &mut cursor, &mut room, &mut clockwork) else {
+            continue;
+        };
+        if let Mistake::Row(_) = mistake {
+            check_lines(heap, names, text)?;
+        }
+        return Err(mistake);
     }
     Ok(clockwork)
 }

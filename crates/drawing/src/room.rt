@@ -1,5 +1,5 @@
 // How many numbers may still come in the row of a clockwork whose parts are being read.
-ghost use Rattle.std.specs.Prelude.{◌≡◌, ◌+◌, ◌<◌, MatchResult};
+ghost use Rattle.std.specs.Prelude.{◌≡◌, ◌+◌, ◌^◌, ◌<◌, MatchResult};
 ghost use Rattle.drawing.specs.declared.mistakes.Mistake.TheVariants.{Row};
 
 use crate::errors::Place;
@@ -19,6 +19,13 @@ impl Room {
         Room {
             left: MOST_WORDS - 2,
         }
+    }
+
+    // Room for any parts: a text is only gone through for mistakes.
+    pub fn boundless() -> Room
+        ensures { result.left + 1 ≡ 2 ^ 64 }
+    {
+        Room { left: usize::MAX }
     }
 
     pub fn left(&self) -> usize

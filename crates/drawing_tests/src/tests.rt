@@ -137,7 +137,7 @@ fn reads_the_largest_row(rt: HostRuntime) -> Result<(), Fail> {
     )
 }
 
-// The place is the end of the text, and what is past the part for which there is no room is not read.
+// The place is the end of the text. Another mistake is told first, wherever it stands.
 #[test]
 fn refuses_larger_rows(rt: HostRuntime) -> Result<(), Fail> {
     let heap = rt.alloc();
@@ -148,7 +148,7 @@ fn refuses_larger_rows(rt: HostRuntime) -> Result<(), Fail> {
         &rt,
         heap,
         steps.as_str(),
-        "24098:5: found more than 16384 numbers, expected a clockwork that a row can hold",
+        "24098:5: found the end of the line, expected a position that a line `position` names",
     )?;
     let tests = repeat(heap, "clocks x\nposition a: x<1", ",x<1", 5_459, "")?;
     assert_eq!(rt; read(heap, tests.as_bytes())?.row.len(), 16_383);
