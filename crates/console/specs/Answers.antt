@@ -1,5 +1,5 @@
 -- The text of an answer, and of a line with a name and an answer.
-use Rattle.std.specs.Prelude.{ℕ, zero, suc, ◌-◌, List, [], ◌∷◌, ◌++◌, length, codes, decimal}
+use Rattle.std.specs.Prelude.{ℕ, zero, suc, ◌-◌, List, [], ◌++◌, length, codes, decimal}
 use Rattle.std.specs.Str.{chars}
 use Rattle.clocks.specs.declared.answers.Asked.{Asked}
 use Rattle.clocks.specs.declared.answers.Asked.TheVariants.{At, After, Never, NoWork, NoPlace, Many, Few}

@@ -1,5 +1,5 @@
 -- The number that a word of decimal digits writes.
-use Rattle.std.specs.Prelude.{ℕ, ◌+◌, ◌-◌, ◌*◌, Bool, cond, ◌&&◌, List, [], ◌∷◌, Some, None, Option, nat_le, nat_lt}
+use Rattle.std.specs.Prelude.{ℕ, ◌+◌, ◌-◌, ◌*◌, cond, ◌&&◌, List, [], ◌∷◌, Some, None, Option, nat_le, nat_lt}
 
 -- one digit more, if it is one and the number still fits 32 bits
 abbrev pub digit_pushed : ℕ → ℕ → Option ℕ

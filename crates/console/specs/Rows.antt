@@ -1,5 +1,5 @@
 -- A row of numbers as text: words of digits with white space between them.
-use Rattle.std.specs.Prelude.{◌≡◌, ℕ, ◌-◌, ◌<◌, ◌≤◌, Bool, true, false, ◌&&◌, ◌||◌, List, [], ◌∷◌, ◌++◌, length, Some, None, codes, decimal, ◌==◌, nat_le, slice_index, slice_range}
+use Rattle.std.specs.Prelude.{◌≡◌, ℕ, ◌<◌, ◌≤◌, Bool, true, false, ◌&&◌, ◌||◌, List, [], ◌∷◌, ◌++◌, length, Some, None, codes, decimal, ◌==◌, nat_le, slice_index, slice_range}
 use Rattle.console.specs.declared.numbers.Mistake.{Mistake}
 use Rattle.console.specs.declared.numbers.Mistake.TheVariants.{Memory, NoNumber, TooMany}
 use Rattle.console.specs.Numbers.{number_of}

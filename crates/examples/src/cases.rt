@@ -3,9 +3,7 @@ use crate::answers::parse;
 use crate::report::Report;
 use clocks::answers::{Asked, ask, look_up};
 use search::explores::explore;
-use std::alloc::{AllocFailed, Global};
-use std::fmt;
-use std::fmt::Write;
+use std::alloc::{AllocError, AllocFailed, Global};
 
 #[derive(Drop)]
 pub struct Case {
@@ -96,7 +94,12 @@ pub fn parse_all(heap: Global, text: &str) -> Result<Vec<Case>, Mistake> {
 }
 
 // Every position in one exploration, at just the number of kinds.
-pub fn look_up_each(report: &mut Report, what: &str, case: &Case, work: &mut [u32]) -> fmt::Result {
+pub fn look_up_each(
+    report: &mut Report,
+    what: &str,
+    case: &Case,
+    work: &mut [u32],
+) -> Result<(), AllocError> {
     let explored = explore(case.row.as_slice(), case.kinds, work);
     for (position, expected) in case.answers.iter().enumerate() {
         let got = look_up(explored, position);
@@ -106,7 +109,12 @@ pub fn look_up_each(report: &mut Report, what: &str, case: &Case, work: &mut [u3
 }
 
 // Every position by itself, at just the number of kinds.
-pub fn ask_each(report: &mut Report, what: &str, case: &Case, work: &mut [u32]) -> fmt::Result {
+pub fn ask_each(
+    report: &mut Report,
+    what: &str,
+    case: &Case,
+    work: &mut [u32],
+) -> Result<(), AllocError> {
     for (position, expected) in case.answers.iter().enumerate() {
         let got = ask(case.row.as_slice(), position, case.kinds, work);
         report.expect(what, position, *expected, got)?;
@@ -115,7 +123,7 @@ pub fn ask_each(report: &mut Report, what: &str, case: &Case, work: &mut [u32]) 
 }
 
 // At one kind less than there are every position gets many.
-fn ask_with_less(report: &mut Report, case: &Case, work: &mut [u32]) -> fmt::Result {
+fn ask_with_less(report: &mut Report, case: &Case, work: &mut [u32]) -> Result<(), AllocError> {
     let kinds = case.kinds.saturating_sub(1);
     for position in 0..case.answers.len() {
         let got = ask(case.row.as_slice(), position, kinds, work);
@@ -125,7 +133,12 @@ fn ask_with_less(report: &mut Report, case: &Case, work: &mut [u32]) -> fmt::Res
 }
 
 // A line for a case, after its differences.
-pub fn check(report: &mut Report, number: usize, case: &Case, work: &mut [u32]) -> fmt::Result {
+pub fn check(
+    report: &mut Report,
+    number: usize,
+    case: &Case,
+    work: &mut [u32],
+) -> Result<(), AllocError> {
     let before = report.tally;
     ask_each(report, "asked", case, work)?;
     look_up_each(report, "looked up", case, work)?;

@@ -5,9 +5,7 @@ use crate::words::KINDS;
 use clocks::answers::{Asked, ask, look_up};
 use drawing::Drawing;
 use search::explores::explore;
-use std::alloc::Global;
-use std::fmt;
-use std::fmt::Write;
+use std::alloc::{AllocError, Global};
 
 // A line that begins so says an answer: `# answer: struck after 2`, or one for all: `# answer: every position at 0`.
 const MARK: &str = "# answer: ";
@@ -82,7 +80,7 @@ fn is_known(position: Option<&str>, positions: &[String]) -> bool {
 }
 
 // A line with the mark that says no answer, or one for a position that is not there, is a fault.
-fn check_lines(report: &mut Report, text: &str, positions: &[String]) -> fmt::Result {
+fn check_lines(report: &mut Report, text: &str, positions: &[String]) -> Result<(), AllocError> {
     for line in text.lines() {
         let Some(rest) = line.strip_prefix(MARK) else {
             continue;
@@ -104,7 +102,13 @@ fn widest(positions: &[String]) -> usize {
 }
 
 // A row of the table, with what is wrong about it.
-fn compare(report: &mut Report, name: &str, width: usize, said: Said, got: Asked) -> fmt::Result {
+fn compare(
+    report: &mut Report,
+    name: &str,
+    width: usize,
+    said: Said,
+    got: Asked,
+) -> Result<(), AllocError> {
     let shown = Shown(got);
     write!(report.text, "  {name:<width$}  {shown}")?;
     match said {
@@ -129,7 +133,12 @@ fn compare(report: &mut Report, name: &str, width: usize, said: Said, got: Asked
 }
 
 // All positions from one exploration.
-fn tabulate(report: &mut Report, text: &str, drawing: &Drawing, work: &mut [u32]) -> fmt::Result {
+fn tabulate(
+    report: &mut Report,
+    text: &str,
+    drawing: &Drawing,
+    work: &mut [u32],
+) -> Result<(), AllocError> {
     let width = widest(drawing.positions.as_slice());
     let explored = explore(drawing.row.as_slice(), KINDS, work);
     for (position, name) in drawing.positions.iter().enumerate() {
@@ -141,7 +150,12 @@ fn tabulate(report: &mut Report, text: &str, drawing: &Drawing, work: &mut [u32]
 }
 
 // Each position asked for by itself must have the same answer.
-fn ask_each(report: &mut Report, text: &str, drawing: &Drawing, work: &mut [u32]) -> fmt::Result {
+fn ask_each(
+    report: &mut Report,
+    text: &str,
+    drawing: &Drawing,
+    work: &mut [u32],
+) -> Result<(), AllocError> {
     for (position, name) in drawing.positions.iter().enumerate() {
         let got = ask(drawing.row.as_slice(), position, KINDS, work);
         if let Said::Once(answer) = find(text, name.as_str()) {
@@ -157,7 +171,7 @@ pub fn check(
     name: &str,
     text: &str,
     work: &mut [u32],
-) -> fmt::Result {
+) -> Result<(), AllocError> {
     report.line(name)?;
     match drawing::read(heap, text.as_bytes()) {
         Ok(drawing) => {

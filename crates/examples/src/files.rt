@@ -9,7 +9,7 @@ pub fn list(rt: &HostRuntime, folder: &str) -> io::Result<Vec<String>> {
         let file = file?;
         names.push(String::from_str(heap, file.file_name())?)?;
     }
-    names.sort();
+    names.sort()?;
     Ok(names)
 }
 

@@ -4,7 +4,6 @@ use crate::report::Report;
 use crate::words::{Garbage, enough, fill};
 use clocks::answers::{Asked, ask};
 use std::alloc::{AllocError, Global};
-use std::fmt;
 
 // What is done to a row so that it is no clockwork's.
 #[derive(Clone, Copy)]
@@ -17,7 +16,7 @@ enum Damage {
 
 // At one word less than enough, and at the largest number of kinds, every position gets few, also one that is not there; at
 // enough none does.
-fn check_few(report: &mut Report, case: &Case, work: &mut [u32]) -> fmt::Result {
+fn check_few(report: &mut Report, case: &Case, work: &mut [u32]) -> Result<(), AllocError> {
     let row = case.row.as_slice();
     let words = enough(row.len(), case.kinds);
     let last = case.answers.len().saturating_sub(1);
@@ -36,7 +35,7 @@ fn check_few(report: &mut Report, case: &Case, work: &mut [u32]) -> fmt::Result 
 }
 
 // The position after the last and the largest number, where the answers are known and where there are too many kinds.
-fn check_places(report: &mut Report, case: &Case, work: &mut [u32]) -> fmt::Result {
+fn check_places(report: &mut Report, case: &Case, work: &mut [u32]) -> Result<(), AllocError> {
     let row = case.row.as_slice();
     for position in [case.answers.len(), usize::MAX] {
         for kinds in [case.kinds, case.kinds.saturating_sub(1), 0] {
@@ -48,7 +47,7 @@ fn check_places(report: &mut Report, case: &Case, work: &mut [u32]) -> fmt::Resu
 }
 
 // Whatever the words hold, the answers are the same.
-fn check_garbage(report: &mut Report, case: &Case, work: &mut [u32]) -> fmt::Result {
+fn check_garbage(report: &mut Report, case: &Case, work: &mut [u32]) -> Result<(), AllocError> {
     for garbage in [
         Garbage::Zeros,
         Garbage::Ones,
@@ -62,7 +61,7 @@ fn check_garbage(report: &mut Report, case: &Case, work: &mut [u32]) -> fmt::Res
 }
 
 // The same call again, on the words that the first one left.
-fn check_twice(report: &mut Report, case: &Case, work: &mut [u32]) -> fmt::Result {
+fn check_twice(report: &mut Report, case: &Case, work: &mut [u32]) -> Result<(), AllocError> {
     for (position, expected) in case.answers.iter().enumerate() {
         fill(work, Garbage::Stripes);
         for what in ["first call", "second call"] {
@@ -89,7 +88,12 @@ fn damage_row(heap: Global, row: &[u32], damage: Damage) -> Result<Vec<u32>, All
 }
 
 // Broken rows: empty, a word less, a word more, and the largest number for how many clocks, positions or tests there are.
-fn check_broken(heap: Global, report: &mut Report, case: &Case, work: &mut [u32]) -> fmt::Result {
+fn check_broken(
+    heap: Global,
+    report: &mut Report,
+    case: &Case,
+    work: &mut [u32],
+) -> Result<(), AllocError> {
     for damage in [
         Damage::Empty,
         Damage::Cut,
@@ -134,7 +138,7 @@ pub fn check(
     report: &mut Report,
     case: &Case,
     work: &mut [u32],
-) -> fmt::Result {
+) -> Result<(), AllocError> {
     match limit {
         Limit::Few => check_few(report, case, work),
         Limit::Places => check_places(report, case, work),

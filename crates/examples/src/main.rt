@@ -6,9 +6,7 @@ use crate::limits::Limit;
 use crate::report::{Report, Tally};
 use crate::words::{KINDS, WORDS};
 use anyhow::anyhow;
-use std::alloc::Global;
-use std::fmt;
-use std::fmt::Write;
+use std::alloc::{AllocError, Global};
 
 mod answers;
 mod cases;
@@ -36,7 +34,7 @@ fn check_folder(
     Ok(())
 }
 
-fn check_cases(report: &mut Report, cases: &[Case], work: &mut [u32]) -> fmt::Result {
+fn check_cases(report: &mut Report, cases: &[Case], work: &mut [u32]) -> Result<(), AllocError> {
     let before = report.tally;
     report.line("cases, at just their number of kinds and at one less:")?;
     for (place, case) in cases.iter().enumerate() {
@@ -52,7 +50,7 @@ fn check_limits(
     report: &mut Report,
     cases: &[Case],
     work: &mut [u32],
-) -> fmt::Result {
+) -> Result<(), AllocError> {
     for limit in [
         Limit::Few,
         Limit::Places,
@@ -70,7 +68,12 @@ fn check_limits(
 }
 
 // The rows of the file with their answers.
-fn check_rows(heap: Global, report: &mut Report, text: &str, work: &mut [u32]) -> fmt::Result {
+fn check_rows(
+    heap: Global,
+    report: &mut Report,
+    text: &str,
+    work: &mut [u32],
+) -> Result<(), AllocError> {
     match cases::parse_all(heap, text) {
         Ok(cases) => {
             check_cases(report, cases.as_slice(), work)?;

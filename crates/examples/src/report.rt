@@ -3,9 +3,8 @@ ghost use Rattle.std.specs.Prelude.{◌≡◌, ◌+◌, ◌-◌, ◌^◌, min, c
 
 use crate::answers::{Shown, same};
 use clocks::answers::Asked;
-use std::alloc::Global;
+use std::alloc::{AllocError, Global};
 use std::fmt;
-use std::fmt::Write;
 
 #[derive(Clone, Copy)]
 pub struct Tally {
@@ -71,21 +70,21 @@ impl Report {
         }
     }
 
-    pub fn line(&mut self, text: &str) -> fmt::Result {
-        self.text.write_str(text)?;
-        self.text.write_str("\n")
+    pub fn line(&mut self, text: &str) -> Result<(), AllocError> {
+        self.text.push_str(text)?;
+        self.text.push_str("\n")
     }
 
     // What was tried since an earlier tally.
-    pub fn sum_up(&mut self, what: &str, earlier: Tally) -> fmt::Result {
+    pub fn sum_up(&mut self, what: &str, earlier: Tally) -> Result<(), AllocError> {
         let tally = self.tally.since(earlier);
         write!(self.text, "{what}: {tally}\n")
     }
 
     // A thing that went wrong, which counts as a difference.
-    pub fn fault(&mut self, text: &str) -> fmt::Result {
+    pub fn fault(&mut self, text: &str) -> Result<(), AllocError> {
         self.tally = self.tally.with(false);
-        self.text.write_str("  DIFFERENCE: ")?;
+        self.text.push_str("  DIFFERENCE: ")?;
         self.line(text)
     }
 
@@ -96,7 +95,7 @@ impl Report {
         position: usize,
         expected: Asked,
         got: Asked,
-    ) -> fmt::Result
+    ) -> Result<(), AllocError>
         ensures as_expected { expected ≡ got → self.new.tally.differences ≡ self.old.tally.differences }
         ensures difference { (expected ≢ got) → self.new.tally.differences ≡ min (self.old.tally.differences + 1) (2 ^ 64 - 1) }
     {

@@ -1,4 +1,4 @@
-use Rattle.std.proofs.Common.{◌≡◌, ℕ, ◌+◌, List, [], ◌∷◌, ◌++◌, length, vec_items, sym, refl, ap, ◌∙◌, subst, arith, length-append}
+use Rattle.std.proofs.Common.{◌≡◌, ℕ, ◌+◌, List, [], ◌∷◌, length, vec_items, sym, ap, ◌∙◌, subst, arith, length-append}
 use Rattle.console.specs.Rows.{Numbered, no_number, one_more}
 use Rattle.console.proofs.numbers.read.Goals as goal
 

@@ -1,4 +1,4 @@
-use Rattle.std.proofs.Common.{◌≡◌, ◌-◌, ◌<◌, ◌≤◌, ◌++◌, length, get_or, take, drop, string_bytes, codes, decimal, sym, refl, ap, arith, rules, true-eqb, false-eqb}
+use Rattle.std.proofs.Common.{◌-◌, ◌<◌, ◌≤◌, ◌++◌, length, get_or, take, drop, string_bytes, codes, decimal, sym, refl, ap, arith, rules, true-eqb, false-eqb}
 use Rattle.std.proofs.lemmas.List.{take_rest}
 use Rattle.clockworks.specs.Meaning.{Adds}
 use Rattle.clockworks.proofs.Writing.{adds_more, adds_same, sofar_none, sofar_more, sofar_all}
