@@ -11,9 +11,7 @@ use console::messages::Problem;
 use rows::edges::Location;
 use rows::views::Automaton;
 use squares::shapes::of_region;
-use std::alloc::Global;
-use std::fmt;
-use std::fmt::Write;
+use std::alloc::{AllocError, Global};
 use witnesses::answers::Witness;
 
 // The first line.
@@ -23,11 +21,11 @@ fn write_first(
     location: Location,
     asked: Asked,
     kinds: u32,
-) -> fmt::Result {
+) -> Result<(), AllocError> {
     match asked {
         Asked::Many => {
             write_answer(text, asked, kinds)?;
-            text.write_str("\n")
+            text.push_str("\n")
         }
         _ => write_line(
             text,
@@ -78,10 +76,10 @@ pub fn write(
     write_first(&mut text, names, location, finding.asked, kinds)?;
     match &finding.shown {
         Shown::Run(witness) => {
-            text.write_str(run_lines(heap, automaton, names, witness)?.as_str())?;
-            text.write_str(bound_lines(heap, automaton, names, witness)?.as_str())?;
+            text.push_str(run_lines(heap, automaton, names, witness)?.as_str())?;
+            text.push_str(bound_lines(heap, automaton, names, witness)?.as_str())?;
         }
-        Shown::NoRoom => text.write_str("no run is shown: its numbers have no place in 64 bits\n")?,
+        Shown::NoRoom => text.push_str("no run is shown: its numbers have no place in 64 bits\n")?,
         Shown::NoRun => {}
     }
     Ok(text)
