@@ -1,4 +1,4 @@
-use Rattle.std.proofs.Common.{[], ◌∷◌, sym, ap, arith}
+use Rattle.std.proofs.Common.{[], ◌∷◌, ap, arith}
 use Rattle.realise.specs.Runs.{wait_count}
 use Rattle.realise.proofs.Waits.{count-more, count-all}
 use Rattle.realise.proofs.runs.count_waits.Goals as goal
