@@ -1,11 +1,10 @@
 -- What an answer says where there is no run to show.
-use Rattle.std.proofs.Common.{◌≡◌, ℕ, Some, None, Option, sym, ◌∙◌, subst, arith}
+use Rattle.std.proofs.Common.{◌≡◌, ℕ, Some, None, arith}
 use Rattle.automata.specs.Automata.{Automaton}
 use Rattle.automata.specs.Statements as theory
 use Rattle.search.specs.declared.answers.Answer.{Answer}
 use Rattle.search.specs.declared.answers.Answer.TheVariants.{At, After, Never}
 use Rattle.search.specs.Answering.{AnswerIs}
-use Rattle.realise.specs.declared.arrivals.Arrival.{Arrival}
 use Rattle.witnesses.specs.Witnesses.{arrival_told}
 
 some≢none : {A B : Type 0} (x : A) → Some x ≡ None → B
