@@ -4,6 +4,7 @@
 use crate::messages::{Problem, Report};
 use crate::options::{Options, Output, Request};
 use std::alloc::Global;
+use std::process::ExitCode;
 use std::{env, io};
 
 mod input;
@@ -61,10 +62,10 @@ fn run(rt: &HostRuntime) -> io::Result<bool> {
     Ok(true)
 }
 
-fn main(rt: HostRuntime) -> io::Result<()> {
+fn main(rt: HostRuntime) -> io::Result<ExitCode> {
     if run(&rt)? {
-        Ok(())
+        Ok(ExitCode::SUCCESS)
     } else {
-        Err(io::Error::from(io::ErrorKind::InvalidInput))
+        Ok(ExitCode::FAILURE)
     }
 }

@@ -14,6 +14,7 @@ use rows::edges::Location;
 use rows::reader;
 use rows::views::Automaton;
 use std::alloc::{AllocError, Global};
+use std::process::ExitCode;
 use std::{env, io};
 
 mod findings;
@@ -140,10 +141,10 @@ fn run(rt: &HostRuntime) -> io::Result<bool> {
     Ok(true)
 }
 
-fn main(rt: HostRuntime) -> io::Result<()> {
+fn main(rt: HostRuntime) -> io::Result<ExitCode> {
     if run(&rt)? {
-        Ok(())
+        Ok(ExitCode::SUCCESS)
     } else {
-        Err(io::Error::from(io::ErrorKind::InvalidInput))
+        Ok(ExitCode::FAILURE)
     }
 }
