@@ -150,6 +150,12 @@ fn refuses_larger_rows(rt: HostRuntime) -> Result<(), Fail> {
         steps.as_str(),
         "24098:5: found the end of the line, expected a position that a line `position` names",
     )?;
+    says(
+        &rt,
+        heap,
+        repeat(heap, "position a\n", "step a->a\n", 4_096, "")?.as_str(),
+        "4098:1: found the end of the text, expected a line `clocks` with a name for each clock",
+    )?;
     let tests = repeat(heap, "clocks x\nposition a: x<1", ",x<1", 5_459, "")?;
     assert_eq!(rt; read(heap, tests.as_bytes())?.row.len(), 16_383);
     let tests = repeat(heap, tests.as_str(), ",x<1", 1, "")?;
