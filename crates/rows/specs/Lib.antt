@@ -2,6 +2,7 @@
 pub mod Parse
 pub mod Statements
 pub mod Parts
+pub mod Values
 pub mod EdgeParts
 pub mod Views
 pub mod Reading
