@@ -1,5 +1,6 @@
 -- Rows read back as automata.
 pub mod Parse
+pub mod Refusals
 pub mod Statements
 pub mod Parts
 pub mod Values

@@ -1,5 +1,5 @@
 // Constraints on clocks, by value, and lists of them as parts of a row.
-ghost use Rattle.std.specs.Prelude.{◌≡◌, ℕ, ◌<◌, ◌≤◌, List, ◌∷◌, ◌++◌, length, drop, Some, IfSome};
+ghost use Rattle.std.specs.Prelude.{◌≡◌, ℕ, ◌<◌, ◌≤◌, List, ◌∷◌, ◌++◌, length, drop, codes, decimal, Some, IfSome};
 ghost use Rattle.std.specs.Iterator.{at_most};
 ghost use Rattle.automata.specs.Rows.{write_constraints};
 ghost use Rattle.automata.specs.Automata.{nth};
@@ -30,6 +30,8 @@ pub enum Relation {
 pub struct UnknownRelation(pub u32);
 
 impl fmt::Display for UnknownRelation {
+    ghost output = { λ unknown. Some (codes "no relation has number " ++ decimal unknown.0) };
+
     fn fmt<W: fmt::Write>(&self, f: &mut fmt::Formatter<W>) -> fmt::Result {
         write!(f, "no relation has number {}", self.0)
     }
@@ -112,16 +114,11 @@ pub struct Constraints<'a> {
     words: &'a [u32],
 }
 
-// What the second word of a constraint says.
+// What the second word of a constraint says; any number above 3 counts as 3.
 pub fn decode_relation(word: u32) -> Relation
     ensures { relation_value result ≡ relation_of word }
 {
-    match word {
-        0 => Relation::AtMost,
-        1 => Relation::Below,
-        2 => Relation::AtLeast,
-        _ => Relation::Above,
-    }
+    Relation::try_from(word).unwrap_or(Relation::Above)
 }
 
 impl<'a> Conjunction<'a> {

@@ -5,10 +5,9 @@ ghost use Rattle.rows.specs.Reading.{Step, Tells, TellsEnd, ReadPost};
 ghost use Rattle.rows.specs.Statements.{RowsRound};
 
 use crate::limits::{MOST_CLOCKS, MOST_LOCATIONS};
+pub use crate::limits::{MOST_BOUND, MOST_WORDS};
 use crate::refusals::{Refusal, Rule};
 use crate::views::Automaton;
-
-pub use crate::limits::{MOST_BOUND, MOST_WORDS};
 
 // The relations of an invariant are the first two, those of a guard all four.
 const UPPER_ONLY: u32 = 2;

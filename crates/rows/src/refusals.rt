@@ -1,5 +1,8 @@
 // Why a row is refused, and at which word.
+ghost use Rattle.std.specs.Prelude.{◌++◌, Some, codes, decimal};
+ghost use Rattle.rows.specs.Refusals.{rule_text};
 
+use crate::limits::{MOST_BOUND, MOST_CLOCKS, MOST_LOCATIONS, MOST_WORDS};
 use std::error::Error;
 use std::fmt;
 
@@ -33,22 +36,26 @@ pub struct Refusal {
 }
 
 impl fmt::Display for Rule {
+    ghost output = { λ rule. Some (rule_text rule) };
+
     fn fmt<W: fmt::Write>(&self, f: &mut fmt::Formatter<W>) -> fmt::Result {
-        f.write_str(match self {
-            Rule::TooLong => "more than 16384 words",
-            Rule::Ends => "a row that ends in the middle",
-            Rule::Clocks => "not 1 to 8 clocks",
-            Rule::Locations => "not 1 to 256 locations",
-            Rule::Clock => "no such clock",
-            Rule::Relation => "no such relation",
-            Rule::LowerBound => "an invariant that bounds a clock from below",
-            Rule::Bound => "a number above 10000",
-            Rule::Location => "no such location",
-        })
+        match self {
+            Rule::TooLong => write!(f, "more than {MOST_WORDS} words"),
+            Rule::Ends => f.write_str("a row that ends in the middle"),
+            Rule::Clocks => write!(f, "not 1 to {MOST_CLOCKS} clocks"),
+            Rule::Locations => write!(f, "not 1 to {MOST_LOCATIONS} locations"),
+            Rule::Clock => f.write_str("no such clock"),
+            Rule::Relation => f.write_str("no such relation"),
+            Rule::LowerBound => f.write_str("an invariant that bounds a clock from below"),
+            Rule::Bound => write!(f, "a number above {MOST_BOUND}"),
+            Rule::Location => f.write_str("no such location"),
+        }
     }
 }
 
 impl fmt::Display for Refusal {
+    ghost output = { λ refusal. Some (rule_text refusal.rule ++ (codes " at word " ++ decimal refusal.word)) };
+
     fn fmt<W: fmt::Write>(&self, f: &mut fmt::Formatter<W>) -> fmt::Result {
         write!(f, "{} at word {}", self.rule, self.word)
     }
