@@ -46,10 +46,10 @@ impl Tally {
 
 impl Counts {
     // The tally of a kind.
-    pub fn of(&self, kind: Kind) -> Tally
-        ensures { (other : Tally) → result ≡ slice_index_or self.now.tallies (place_of kind) other }
+    pub fn tally(&self, of: Kind) -> Tally
+        ensures { (other : Tally) → result ≡ slice_index_or self.now.tallies (place_of of) other }
     {
-        self.tallies[kind as usize]
+        self.tallies[of as usize]
     }
 
     // One more position.

@@ -1,4 +1,6 @@
 // What keeps the program from going on is told on standard error.
+ghost use Rattle.std.specs.Prelude.{IsErr};
+
 use crate::grid_search::Space;
 use crate::opinions::{Opinion, opinions};
 use crate::texts::Numbers;
@@ -9,7 +11,9 @@ pub fn fail<T, M: fmt::Display + Drop>(
     rt: &HostRuntime,
     kind: io::ErrorKind,
     message: M,
-) -> io::Result<T> {
+) -> io::Result<T>
+    ensures { IsErr result }
+{
     eprintln!(rt; "{message}")?;
     Err(io::Error::from(kind))
 }

@@ -72,7 +72,7 @@ fn print_tally(rt: &HostRuntime, kind: Kind, tally: Tally) -> io::Result<()> {
 pub fn print_counts(rt: &HostRuntime, counts: &Counts) -> io::Result<()> {
     println!(rt; "answer                           positions   as told     later not found")?;
     for kind in Kind::ALL {
-        print_tally(rt, kind, counts.of(kind))?;
+        print_tally(rt, kind, counts.tally(kind))?;
     }
     let followed = counts.followed;
     let differences = counts.differences;
