@@ -20,7 +20,7 @@ const WORDS_FOR_A_WORD: usize = 8;
 const WORDS_FOR_A_KIND: usize = 256;
 
 // Words for rows of up to 16,384 words.
-pub const WORK: usize = WORDS + WORDS_FOR_A_WORD * 16_384 + WORDS_FOR_A_KIND * 16_384;
+pub const WORK: usize = WORDS + WORDS_FOR_A_WORD * 16_384 + WORDS_FOR_A_KIND * KINDS as usize;
 
 // The first time on the grid, in sixtieths, and what came of the run to it.
 #[derive(Clone, Copy)]
@@ -38,6 +38,15 @@ pub struct Opinion {
 }
 
 impl Opinion {
+    fn new(asked: Asked, has_way: bool, first: Option<First>) -> Self {
+        Opinion {
+            asked,
+            kind: kind_of(asked, has_way),
+            finding: judge(asked, first.map(|first| first.time)),
+            first,
+        }
+    }
+
     // Whether the answer and the grid contradict each other, or the grid's run is none.
     pub fn differs(&self) -> bool {
         self.finding == Finding::Contradiction
@@ -45,39 +54,19 @@ impl Opinion {
     }
 }
 
-fn follow_to(
+// The first time at a location, where there is one.
+fn first_at(
     heap: Global,
     automaton: &Automaton,
     visits: &Visits,
     location: u32,
-    arrival: Arrival,
-) -> Result<First, Fault> {
-    let moves = moves_to(heap, visits, arrival.state)?;
-    let time = arrival.time;
-    Ok(First {
-        time,
-        followed: follow(automaton, moves.as_slice(), location, time),
-    })
-}
-
-fn opinion_on(
-    heap: Global,
-    automaton: &Automaton,
-    visits: &Visits,
-    location: u32,
-    asked: Asked,
-    has_way: bool,
-) -> Result<Opinion, Fault> {
-    let first = match visits.first(location) {
-        Some(arrival) => Some(follow_to(heap, automaton, visits, location, arrival)?),
-        None => None,
+) -> Result<Option<First>, Fault> {
+    let Some(Arrival { state, time }) = visits.first(location) else {
+        return Ok(None);
     };
-    Ok(Opinion {
-        asked,
-        kind: kind_of(asked, has_way),
-        finding: judge(asked, first.map(|first| first.time)),
-        first,
-    })
+    let moves = moves_to(heap, visits, state)?;
+    let followed = follow(automaton, moves.as_slice(), location, time);
+    Ok(Some(First { time, followed }))
 }
 
 // An opinion for each position.
@@ -89,7 +78,8 @@ pub fn opinions(heap: Global, space: Space<'_>, work: &mut [u32]) -> Result<Vec<
     let mut all = Vec::new(heap);
     for (location, has_way) in (0..automaton.locations()).zip(ways) {
         let asked = look_up(explored, location as usize);
-        all.push(opinion_on(heap, automaton, &visits, location, asked, has_way)?)?;
+        let first = first_at(heap, automaton, &visits, location)?;
+        all.push(Opinion::new(asked, has_way, first))?;
     }
     Ok(all)
 }
