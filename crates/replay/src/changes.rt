@@ -14,9 +14,9 @@ use rows::views::Automaton;
 pub(crate) fn waited(moment: &Moment, delay: u64) -> Option<Moment>
     ensures { MatchOption result (NoRoomFor delay moment.now) (λ after. Waited delay moment.now after) }
 {
-    let mut clocks = [0; MOST_CLOCKS];
-    for clock in 0..MOST_CLOCKS {
-        clocks[clock] = moment.clocks[clock].checked_add(delay)?;
+    let mut clocks = moment.clocks;
+    for clock in clocks.iter_mut() {
+        *clock = clock.checked_add(delay)?;
     }
     let time = moment.time.checked_add(delay)?;
     Some(Moment {
@@ -27,7 +27,7 @@ pub(crate) fn waited(moment: &Moment, delay: u64) -> Option<Moment>
 }
 
 // The values of the clocks after resets.
-pub(crate) fn with_resets(clocks: [u64; MOST_CLOCKS], resets: &[u32]) -> [u64; MOST_CLOCKS]
+pub fn with_resets(clocks: [u64; MOST_CLOCKS], resets: &[u32]) -> [u64; MOST_CLOCKS]
     ensures { (i : ℕ) → i < 8 → slice_index result i ≡ (if among i resets.now then 0 else slice_index clocks i) }
 {
     let mut after = clocks;
@@ -44,9 +44,5 @@ pub(crate) fn with_resets(clocks: [u64; MOST_CLOCKS], resets: &[u32]) -> [u64; M
 pub(crate) fn numbered_edge<'a>(automaton: &Automaton<'a>, number: u32) -> Option<Edge<'a>>
     ensures { (a : automata.Automaton) → Views automaton.now a → EdgeNumber (nth a.edges number) result }
 {
-    let mut edges = automaton.edges();
-    for _ in 0..number {
-        edges.next()?;
-    }
-    edges.next()
+    automaton.edges().nth(number as usize)
 }

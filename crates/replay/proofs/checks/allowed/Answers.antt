@@ -1,9 +1,8 @@
 -- The constraints are those of the location.
-use Rattle.std.proofs.Common.{List, sym, subst}
+use Rattle.std.proofs.Common.{slice_index, List, sym, subst}
 use mathlib.Core.Option.{Option}
 use Rattle.automata.specs.Automata.{Constraint, or_empty}
 use Rattle.replay.specs.Checks.{Decides, HoldsParts}
-use Rattle.replay.specs.Meaning.{clock_of}
 use Rattle.replay.proofs.checks.allowed.Goals as goal
 
 pub returns-in-Some : goal.returns-in-Some
@@ -11,6 +10,6 @@ returns-in-Some c =
     λ a views.
     let x = c.in-Some.ensures a views in
     subst
-    (λ (o : Option (List Constraint)). Decides c.holds.result (HoldsParts c.args.denominator (clock_of c.args.moment.now) (or_empty o)))
+    (λ (o : Option (List Constraint)). Decides c.holds.result (HoldsParts c.args.denominator (slice_index c.args.clocks.now) (or_empty o)))
     (sym x.1)
     (c.holds.ensures x.0 x.2)

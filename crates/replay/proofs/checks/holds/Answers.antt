@@ -1,10 +1,9 @@
 -- The first constraint that does not hold decides.
-use Rattle.std.proofs.Common.{◌≡◌, ℕ, List, subst, arith, below_more}
+use Rattle.std.proofs.Common.{slice_index, ◌≡◌, ℕ, List, subst, arith, below_more}
 use mathlib.Core.Option.{some}
 use Rattle.automata.specs.Automata.{nth, Constraint}
 use Rattle.rows.specs.Parts.{constraint_value}
 use Rattle.replay.specs.Checks.{MeetsParts}
-use Rattle.replay.specs.Meaning.{clock_of}
 use Rattle.replay.proofs.Lists.{some_within, none_behind, some_same}
 use Rattle.replay.proofs.checks.holds.Goals as goal
 
@@ -38,10 +37,10 @@ pub loop-place-preserved : goal.loop-place-preserved
 loop-place-preserved c =
     λ cs e j b below at.
     below_more
-    (Asked c.args.denominator (clock_of c.args.moment.now) cs)
+    (Asked c.args.denominator (slice_index c.args.clocks.now) cs)
     c.loop-place.place
     (λ k h x. c.loop-place.invariant cs e k x h)
-    (asked c.args.denominator (clock_of c.args.moment.now) cs c.loop-place.place
+    (asked c.args.denominator (slice_index c.args.clocks.now) cs c.loop-place.place
     c.value_of-value.result (constraint_value c.in-Some.constraint) (c.in-Some.ensures cs e) c.value_of-value.ensures c.if-not-meets.ensures)
     j
     below

@@ -1,7 +1,7 @@
 -- Dividing by the greatest common divisor leaves none.
 use Rattle.std.proofs.Common.{refl, arith}
 use Rattle.replay.proofs.Divisors.{divisor_positive, in_lowest_terms}
-use Rattle.replay.proofs.fractions.lowest.Goals as goal
+use Rattle.replay.proofs.fractions.Fraction.lowest.Goals as goal
 
 pub returns-then-denominator-eq0 : goal.returns-then-denominator-eq0
 returns-then-denominator-eq0 c =

@@ -13,7 +13,7 @@ use Rattle.replay.specs.Changes.{Taken, EdgeNumber}
 use Rattle.replay.specs.Outcomes.{Advanced, StepFails}
 use Rattle.replay.proofs.InRange.{InRange, reads_in_range}
 use Rattle.replay.proofs.Moving.{guard_fails, target_fails, step_advances}
-use Rattle.replay.proofs.runs.step.Goals as goal
+use Rattle.replay.proofs.runs.Player.step.Goals as goal
 
 abbrev after_edge : Edge → Moment → List ℕ → Moment
 after_edge v m clocks = record { location = v.target; clocks = clocks; time = m.time }
@@ -64,25 +64,25 @@ module _
 pub returns-then-not-holds : goal.returns-then-not-holds
 returns-then-not-holds c =
     λ a views.
-    let found = c.in-Some.ensures a views in
-    guard-fault a (reads_in_range views.reads) c.args.denominator c.requires c.args.number c.in-Some.edge
+    let found = rw c.in_ok-edge.ensures.ok_part at (c.numbered_edge.ensures a views) in
+    guard-fault a (reads_in_range views.reads) c.args.self.now.denominator c.args.self.now.positive c.args.number c.in_ok-edge.edge
     c.args.moment.now found
     (c.if-not-holds.ensures found.0.guard found.2.guard)
 
-pub returns-then-not-allowed : goal.returns-then-not-allowed
-returns-then-not-allowed c =
+pub returns-then-not-is_allowed : goal.returns-then-not-is_allowed
+returns-then-not-is_allowed c =
     λ a views.
-    let found = c.in-Some.ensures a views in
-    target-fault a (reads_in_range views.reads) c.args.denominator c.requires c.args.number c.in-Some.edge
+    let found = rw c.in_ok-edge.ensures.ok_part at (c.numbered_edge.ensures a views) in
+    target-fault a (reads_in_range views.reads) c.args.self.now.denominator c.args.self.now.positive c.args.number c.in_ok-edge.edge
     c.args.moment.now found c.with_resets.result c.with_resets.ensures
-    (c.if-not-allowed.ensures a views)
+    (c.if-not-is_allowed.ensures a views)
 
 pub returns : goal.returns
 returns c =
     λ a views.
-    let found = c.in-Some.ensures a views in
-    edge-taken a (reads_in_range views.reads) c.args.denominator c.requires c.args.number c.in-Some.edge
+    let found = rw c.in_ok-edge.ensures.ok_part at (c.numbered_edge.ensures a views) in
+    edge-taken a (reads_in_range views.reads) c.args.self.now.denominator c.args.self.now.positive c.args.number c.in_ok-edge.edge
     c.args.moment.now found c.with_resets.result c.with_resets.ensures
     c.if-edge-moment.false
     (c.if-not-holds.ensures found.0.guard found.2.guard)
-    (c.if-not-allowed.ensures a views)
+    (c.if-not-is_allowed.ensures a views)
