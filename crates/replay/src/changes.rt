@@ -6,8 +6,9 @@ ghost use Rattle.regions.specs.Moves.{among};
 ghost use Rattle.rows.specs.Views.{Views};
 ghost use Rattle.replay.specs.Changes.{Waited, NoRoomFor, EdgeNumber};
 
-use crate::moments::{MOST_CLOCKS, Moment};
+use crate::moments::Moment;
 use rows::edges::Edge;
+use rows::limits::CLOCKS;
 use rows::views::Automaton;
 
 // The moment after a wait; none where a sum is too large.
@@ -27,13 +28,13 @@ pub(crate) fn waited(moment: &Moment, delay: u64) -> Option<Moment>
 }
 
 // The values of the clocks after resets.
-pub fn with_resets(clocks: [u64; MOST_CLOCKS], resets: &[u32]) -> [u64; MOST_CLOCKS]
+pub fn with_resets(clocks: [u64; CLOCKS], resets: &[u32]) -> [u64; CLOCKS]
     ensures { (i : ℕ) → i < 8 → slice_index result i ≡ (if among i resets.now then 0 else slice_index clocks i) }
 {
     let mut after = clocks;
     for clock in resets {
         let place = *clock as usize;
-        if place < MOST_CLOCKS {
+        if place < CLOCKS {
             after[place] = 0;
         }
     }

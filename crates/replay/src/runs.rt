@@ -11,8 +11,9 @@ ghost use Rattle.replay.specs.Outcomes.{Begins, Advances, Replays};
 
 use crate::changes::{numbered_edge, waited, with_resets};
 use crate::checks::{allowed, holds};
-use crate::moments::{Fault, MOST_CLOCKS, Moment, Move};
+use crate::moments::{Fault, Moment, Move};
 use rows::edges::Location;
+use rows::limits::CLOCKS;
 use rows::views::Automaton;
 
 // The start of every run: location 0, all clocks 0, at time 0.
@@ -21,7 +22,7 @@ pub fn begin(automaton: &Automaton) -> Result<Moment, Fault>
 {
     let start = Moment {
         location: Location(0),
-        clocks: [0; MOST_CLOCKS],
+        clocks: [0; CLOCKS],
         time: 0,
     };
     // 0 is 0 over every denominator
@@ -80,7 +81,7 @@ impl<'a> Player<'a> {
         ensures { (a : automata.Automaton) → Views self.now.automaton a → Advances a self.now.denominator moment.now (Step number) result }
     {
         let edge = numbered_edge(&self.automaton, number).ok_or(Fault::NoSuchStep)?;
-        if edge.source.0 != moment.location.0 {
+        if edge.source != moment.location {
             return Err(Fault::OtherPosition);
         }
         if !holds(&edge.guard, self.denominator, &moment.clocks) {

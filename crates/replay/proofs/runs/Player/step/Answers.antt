@@ -1,5 +1,5 @@
 -- An edge may be taken if its guard holds, and the invariant of its target after it.
-use Rattle.std.proofs.Common.{◌≡◌, ℕ, ◌<◌, ◌≤◌, cond, List, get_or, Some, sym, refl, ◌∙◌, subst}
+use Rattle.std.proofs.Common.{◌≡◌, ℕ, ◌<◌, ◌≤◌, cond, List, get_or, Some, sym, refl, ◌∙◌, subst, rules}
 use Rattle.automata.specs.Automata as automata
 use Rattle.regions.specs.Moves.{among}
 use Rattle.rows.specs.declared.edges.Edge.{Edge}
@@ -12,6 +12,7 @@ use Rattle.replay.specs.Checks.{HoldsParts}
 use Rattle.replay.specs.Changes.{Taken, EdgeNumber}
 use Rattle.replay.specs.Outcomes.{Advanced, StepFails}
 use Rattle.replay.proofs.InRange.{InRange, reads_in_range}
+use Rattle.replay.proofs.Constraints.{written_as}
 use Rattle.replay.proofs.Moving.{guard_fails, target_fails, step_advances}
 use Rattle.replay.proofs.runs.Player.step.Goals as goal
 
@@ -67,7 +68,7 @@ returns-then-not-holds c =
     let found = rw c.in_ok-edge.ensures.ok_part at (c.numbered_edge.ensures a views) in
     guard-fault a (reads_in_range views.reads) c.args.self.now.denominator c.args.self.now.positive c.args.number c.in_ok-edge.edge
     c.args.moment.now found
-    (c.if-not-holds.ensures found.0.guard found.2.guard)
+    (rw (written_as c.in_ok-edge.edge.guard.words.now found.0.guard found.2.guard) at c.if-not-holds.ensures)
 
 pub returns-then-not-is_allowed : goal.returns-then-not-is_allowed
 returns-then-not-is_allowed c =
@@ -83,6 +84,6 @@ returns c =
     let found = rw c.in_ok-edge.ensures.ok_part at (c.numbered_edge.ensures a views) in
     edge-taken a (reads_in_range views.reads) c.args.self.now.denominator c.args.self.now.positive c.args.number c.in_ok-edge.edge
     c.args.moment.now found c.with_resets.result c.with_resets.ensures
-    c.if-edge-moment.false
-    (c.if-not-holds.ensures found.0.guard found.2.guard)
+    (search rules)
+    (rw (written_as c.in_ok-edge.edge.guard.words.now found.0.guard found.2.guard) at c.if-not-holds.ensures)
     (c.if-not-is_allowed.ensures a views)
