@@ -45,10 +45,7 @@ impl fmt::Display for Time {
 impl fmt::Display for Found {
     fn fmt<W: fmt::Write>(&self, f: &mut fmt::Formatter<W>) -> fmt::Result {
         match self.0 {
-            Some(parts) => {
-                let time = Time(parts);
-                write!(f, "first at {time}")
-            }
+            Some(parts) => write!(f, "first at {}", Time(parts)),
             None => f.write_str("never"),
         }
     }
@@ -59,7 +56,6 @@ impl<'a> fmt::Display for Numbers<'a> {
     fn fmt<W: fmt::Write>(&self, f: &mut fmt::Formatter<W>) -> fmt::Result {
         for (place, number) in self.0.iter().enumerate() {
             f.write_str(if place == 0 { "" } else { " " })?;
-            let number = *number;
             write!(f, "{number}")?;
         }
         Ok(())
