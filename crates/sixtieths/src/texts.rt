@@ -1,7 +1,7 @@
 // Answers, times and rows as text.
 use clocks::answers::Asked;
 use grids::grid::PARTS;
-use replay::fractions::lowest;
+use replay::fractions::Fraction;
 use std::fmt;
 
 #[derive(Clone, Copy)]
@@ -34,11 +34,11 @@ impl fmt::Display for Told {
 impl fmt::Display for Time {
     fn fmt<W: fmt::Write>(&self, f: &mut fmt::Formatter<W>) -> fmt::Result {
         let whole = self.0 / PARTS;
-        let (above, below) = lowest(self.0 % PARTS, PARTS);
-        if above == 0 {
+        let part = Fraction::lowest(self.0 % PARTS, PARTS);
+        if part.numerator == 0 {
             return write!(f, "{whole}");
         }
-        write!(f, "{whole} {above}/{below}")
+        write!(f, "{whole} {part}")
     }
 }
 
