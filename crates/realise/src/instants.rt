@@ -119,10 +119,12 @@ pub fn plan_along(heap: Global, frame: Frame, way: &[Leg]) -> Result<Plan, Failu
     let mut planner = Planner::new(heap, frame)?;
     for legs in way.chunk_by(|leg, next| leg.by == Passage::Delay && next.by == Passage::Delay) {
         match legs {
-            [Leg {
-                by: Passage::Edge(number),
-                region,
-            }] => planner.take(*number, region)?,
+            [
+                Leg {
+                    by: Passage::Edge(number),
+                    region,
+                },
+            ] => planner.take(*number, region)?,
             _ => planner.wait(legs)?,
         }
     }

@@ -90,7 +90,10 @@ fn moves_of(
 fn count_waits(moves: &[Move]) -> usize
     ensures { result ≡ wait_count moves.now }
 {
-    moves.iter().filter(|by| matches!(by, Move::Wait(_))).count()
+    moves
+        .iter()
+        .filter(|by| matches!(by, Move::Wait(_)))
+        .count()
 }
 
 // Whether a denominator has no more than the parts of a fraction for each wait, and 0.
