@@ -3,7 +3,7 @@ ghost use Rattle.std.specs.Prelude.{◌≡◌, Some, string_bytes, MatchResult};
 ghost use Rattle.console.specs.Numbers.{number_of};
 ghost use Rattle.console.specs.Mistakes.{NumberRefused};
 
-use crate::nearness::is_nearly;
+use crate::nearness::nearest;
 use crate::numbers;
 use std::alloc::{AllocError, Global};
 use std::fmt;
@@ -40,25 +40,14 @@ impl From<AllocError> for Mistake {
     }
 }
 
-// The first option that is nearly a word.
-fn nearest(
-    heap: Global,
-    options: &[&'static str],
-    word: &str,
-) -> Result<Option<&'static str>, AllocError> {
-    for option in options {
-        if is_nearly(heap, option, word)? {
-            return Ok(Some(*option));
-        }
-    }
-    Ok(None)
-}
-
 // No option is called so: told with the option that is nearly it.
 pub fn refuse(heap: Global, options: &[&'static str], word: String) -> Mistake {
     match nearest(heap, options, word.as_str()) {
-        Ok(nearest) => Mistake::Unknown { word, nearest },
-        Err(_) => Mistake::Memory,
+        Ok(nearest) => Mistake::Unknown {
+            nearest: nearest.copied(),
+            word,
+        },
+        Err(error) => Mistake::from(error),
     }
 }
 
@@ -66,10 +55,7 @@ pub fn refuse(heap: Global, options: &[&'static str], word: String) -> Mistake {
 pub fn number(option: &'static str, word: String) -> Result<u32, Mistake>
     ensures { MatchResult result (λ n. number_of (string_bytes word) ≡ Some n) (λ m. NumberRefused word m) }
 {
-    match numbers::parse(word.as_str().as_bytes()) {
-        Some(number) => Ok(number),
-        None => Err(Mistake::NoNumber { option, word }),
-    }
+    numbers::parse(word.as_str().as_bytes()).ok_or(Mistake::NoNumber { option, word })
 }
 
 impl fmt::Display for Mistake {
@@ -78,10 +64,10 @@ impl fmt::Display for Mistake {
             Mistake::Memory => f.write_str("not enough memory"),
             Mistake::Unknown { word, nearest } => {
                 write!(f, "no option is called `{word}`")?;
-                match nearest {
-                    Some(nearest) => write!(f, "; did you mean `{nearest}`?"),
-                    None => Ok(()),
+                if let Some(nearest) = nearest {
+                    write!(f, "; did you mean `{nearest}`?")?;
                 }
+                Ok(())
             }
             Mistake::SecondFile(word) => write!(
                 f,
