@@ -1,7 +1,9 @@
 -- Rows read back as automata.
 pub mod Parse
+pub mod Refusals
 pub mod Statements
 pub mod Parts
+pub mod Values
 pub mod EdgeParts
 pub mod Views
 pub mod Reading

@@ -1,11 +1,15 @@
 -- What the parts of a row say, against the automaton that it is the writing of.
-use Rattle.std.specs.Prelude.{◌≡◌, ℕ, ◌≤◌, List, ◌∷◌, ◌++◌, length, drop, Some, None, Option}
+use Rattle.std.specs.Prelude.{◌≡◌, ℕ, ◌≤◌, Bool, List, ◌∷◌, ◌++◌, length, drop, codes, Some, None, Option, Ok, Err, Result}
+use Rattle.std.specs.Ordering.{is_lt, is_le, is_gt, is_ge}
+use Rattle.std.specs.declared.cmp.Ordering.{Ordering}
 use Rattle.std.proofs.Math.Option as option
 use Rattle.std.specs.Borrow.{Bor}
 use Rattle.automata.specs.Automata as automata
 use Rattle.automata.specs.Rows.{write_constraints}
+use Rattle.automata.specs.Rows as automata_rows
 use Rattle.rows.specs.declared.constraints.Relation.{Relation}
 use Rattle.rows.specs.declared.constraints.Relation.TheVariants.{AtMost, Below, AtLeast, Above}
+use Rattle.rows.specs.declared.constraints.UnknownRelation.{UnknownRelation}
 use Rattle.rows.specs.declared.constraints.Constraint.{Constraint}
 use Rattle.rows.specs.declared.constraints.Conjunction.{Conjunction}
 
@@ -14,6 +18,25 @@ relation_value AtMost = automata.at_most
 relation_value Below = automata.below
 relation_value AtLeast = automata.at_least
 relation_value Above = automata.above
+
+-- how a relation is written
+abbrev pub relation_text : automata.Relation → List ℕ
+relation_text automata.at_most = codes "<="
+relation_text automata.below = codes "<"
+relation_text automata.at_least = codes ">="
+relation_text automata.above = codes ">"
+
+-- the word is the number of the relation, or of none
+abbrev pub RelationRead : ℕ → Result Relation UnknownRelation → Type 0
+RelationRead word (Ok r) = automata_rows.code (relation_value r) ≡ word
+RelationRead word (Err e) = (4 ≤ word) × (e.0 ≡ word)
+
+-- whether a value stands so to a bound, in an order
+abbrev pub relates : {A : Type 0} → (A → A → Ordering) → Relation → A → A → Bool
+relates cmp AtMost a b = is_le (cmp a b)
+relates cmp Below a b = is_lt (cmp a b)
+relates cmp AtLeast a b = is_ge (cmp a b)
+relates cmp Above a b = is_gt (cmp a b)
 
 abbrev pub constraint_value : Constraint → automata.Constraint
 constraint_value c = record { clock = c.clock.0; relation = relation_value c.relation; bound = c.bound }

@@ -1,16 +1,23 @@
 // Constraints on clocks, by value, and lists of them as parts of a row.
-ghost use Rattle.std.specs.Prelude.{◌≡◌, ℕ, ◌<◌, ◌≤◌, List, ◌∷◌, ◌++◌, length, drop, IfSome};
+ghost use Rattle.std.specs.Prelude.{◌≡◌, ℕ, ◌<◌, ◌≤◌, List, ◌∷◌, ◌++◌, length, drop, codes, decimal, Some, IfSome};
+ghost use Rattle.std.specs.Iterator.{at_most};
 ghost use Rattle.automata.specs.Rows.{write_constraints};
 ghost use Rattle.automata.specs.Automata.{nth};
 ghost use Rattle.automata.specs.Automata as automata;
+ghost use Rattle.automata.specs.Rows.{code};
 ghost use Rattle.rows.specs.Parse.{relation_of};
-ghost use Rattle.rows.specs.Parts.{relation_value, ConstraintIs, ConjunctionAt};
+ghost use Rattle.rows.specs.Parts.{relation_value, relation_text, RelationRead, relates, ConstraintIs, ConjunctionAt};
+ghost use Rattle.rows.specs.Values.{constraints_value, conjunction_value, NextConstraint};
+
+use std::error::Error;
+use std::fmt;
 
 // The number of a clock.
-#[derive(Clone, Copy)]
+#[derive(Clone, Copy, Debug, PartialEq, Eq)]
 pub struct Clock(pub u32);
 
-#[derive(Clone, Copy)]
+// How a clock is compared with a whole number.
+#[derive(Clone, Copy, Debug, PartialEq, Eq)]
 pub enum Relation {
     AtMost,
     Below,
@@ -18,7 +25,77 @@ pub enum Relation {
     Above,
 }
 
-#[derive(Clone, Copy)]
+// A number that stands for no relation.
+#[derive(Clone, Copy, Debug, PartialEq, Eq)]
+pub struct UnknownRelation(pub u32);
+
+impl fmt::Display for UnknownRelation {
+    ghost output = { λ unknown. Some (codes "no relation has number " ++ decimal unknown.0) };
+
+    fn fmt<W: fmt::Write>(&self, f: &mut fmt::Formatter<W>) -> fmt::Result {
+        write!(f, "no relation has number {}", self.0)
+    }
+}
+
+impl Error for UnknownRelation {}
+
+impl TryFrom<u32> for Relation {
+    type Error = UnknownRelation;
+
+    ghost try_from_gives = { RelationRead };
+
+    fn try_from(word: u32) -> Result<Self, UnknownRelation> {
+        match word {
+            0 => Ok(Relation::AtMost),
+            1 => Ok(Relation::Below),
+            2 => Ok(Relation::AtLeast),
+            3 => Ok(Relation::Above),
+            _ => Err(UnknownRelation(word)),
+        }
+    }
+}
+
+impl From<Relation> for u32 {
+    ghost from_gives = { λ relation word. word ≡ code (relation_value relation) };
+
+    fn from(relation: Relation) -> u32 {
+        match relation {
+            Relation::AtMost => 0,
+            Relation::Below => 1,
+            Relation::AtLeast => 2,
+            Relation::Above => 3,
+        }
+    }
+}
+
+impl fmt::Display for Relation {
+    ghost output = { λ relation. Some (relation_text (relation_value relation)) };
+
+    fn fmt<W: fmt::Write>(&self, f: &mut fmt::Formatter<W>) -> fmt::Result {
+        f.write_str(match self {
+            Relation::AtMost => "<=",
+            Relation::Below => "<",
+            Relation::AtLeast => ">=",
+            Relation::Above => ">",
+        })
+    }
+}
+
+impl Relation {
+    // Whether the value stands so to the bound.
+    pub fn holds<T: Ord + Copy>(self, value: T, bound: T) -> bool
+        ensures { result ≡ relates T.cmp self value bound }
+    {
+        match self {
+            Relation::AtMost => value <= bound,
+            Relation::Below => value < bound,
+            Relation::AtLeast => value >= bound,
+            Relation::Above => value > bound,
+        }
+    }
+}
+
+#[derive(Clone, Copy, Debug, PartialEq, Eq)]
 pub struct Constraint {
     pub clock: Clock,
     pub relation: Relation,
@@ -31,16 +108,17 @@ pub struct Conjunction<'a> {
     pub words: &'a [u32],
 }
 
-// What the second word of a constraint says.
+// The constraints of a conjunction that are still to come.
+#[derive(Clone, Copy)]
+pub struct Constraints<'a> {
+    words: &'a [u32],
+}
+
+// What the second word of a constraint says; any number above 3 counts as 3.
 pub fn decode_relation(word: u32) -> Relation
     ensures { relation_value result ≡ relation_of word }
 {
-    match word {
-        0 => Relation::AtMost,
-        1 => Relation::Below,
-        2 => Relation::AtLeast,
-        _ => Relation::Above,
-    }
+    Relation::try_from(word).unwrap_or(Relation::Above)
 }
 
 impl<'a> Conjunction<'a> {
@@ -62,6 +140,44 @@ impl<'a> Conjunction<'a> {
             clock: Clock(self.words[at]),
             relation: decode_relation(self.words[at + 1]),
             bound: self.words[at + 2],
+        })
+    }
+
+    pub fn iter(&self) -> Constraints<'a>
+        ensures { constraints_value result.words.now ≡ conjunction_value self.now }
+    {
+        Constraints { words: self.words }
+    }
+}
+
+impl<'a> IntoIterator for Conjunction<'a> {
+    type Item = Constraint;
+
+    type IntoIter = Constraints<'a>;
+
+    ghost into_iter_gives = { λ conjunction constraints. constraints_value constraints.words.now ≡ conjunction_value conjunction };
+
+    fn into_iter(self) -> Constraints<'a> {
+        self.iter()
+    }
+}
+
+impl<'a> Iterator for Constraints<'a> {
+    type Item = Constraint;
+
+    ghost next_gives = { λ s r t. NextConstraint (constraints_value s.words.now) r (constraints_value t.words.now) };
+
+    ghost remaining = { λ s. at_most (length s.words.now) };
+
+    fn next(&mut self) -> Option<Constraint> {
+        let [clock, relation, bound, rest @ ..] = self.words else {
+            return None;
+        };
+        self.words = rest;
+        Some(Constraint {
+            clock: Clock(*clock),
+            relation: decode_relation(*relation),
+            bound: *bound,
         })
     }
 }

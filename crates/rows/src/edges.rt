@@ -7,7 +7,7 @@ ghost use Rattle.rows.specs.EdgeParts.{EdgeAt};
 use crate::constraints::{Conjunction, conjunction_at};
 
 // The number of a location.
-#[derive(Clone, Copy)]
+#[derive(Clone, Copy, Debug, PartialEq, Eq)]
 pub struct Location(pub u32);
 
 #[derive(Clone, Copy)]

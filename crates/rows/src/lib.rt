@@ -4,6 +4,7 @@
 
 pub mod constraints;
 pub mod edges;
+pub mod limits;
 pub mod reader;
 pub mod refusals;
 pub mod views;

@@ -4,16 +4,10 @@ ghost use Rattle.rows.specs.Parse.{parse_constraints, parse_conjunction, parse_i
 ghost use Rattle.rows.specs.Reading.{Step, Tells, TellsEnd, ReadPost};
 ghost use Rattle.rows.specs.Statements.{RowsRound};
 
+use crate::limits::{MOST_CLOCKS, MOST_LOCATIONS};
+pub use crate::limits::{MOST_BOUND, MOST_WORDS};
 use crate::refusals::{Refusal, Rule};
 use crate::views::Automaton;
-
-pub const MOST_WORDS: usize = 16384;
-
-pub const MOST_CLOCKS: u32 = 8;
-
-pub const MOST_LOCATIONS: u32 = 256;
-
-pub const MOST_BOUND: u32 = 10000;
 
 // The relations of an invariant are the first two, those of a guard all four.
 const UPPER_ONLY: u32 = 2;
