@@ -1,5 +1,6 @@
 // The text of a file or of standard input, of bounded length.
-ghost use Rattle.std.specs.Prelude.{◌≤◌, IfOk, vec_len};
+ghost use Rattle.std.specs.Prelude.{◌≤◌, option_map, IfOk, vec_len};
+ghost use Rattle.console.specs.Calls.{SourceIs};
 
 use crate::budget::TEXT_BYTES;
 use crate::messages::Problem;
@@ -12,6 +13,18 @@ use std::{fmt, io};
 pub enum Source<'a> {
     Input,
     File(&'a str),
+}
+
+impl<'a> Source<'a> {
+    // Standard input where no file is named, or `-` is.
+    pub fn of(file: Option<&'a str>) -> Source<'a>
+        ensures { SourceIs (option_map (λ name. name.now) file.entry) result }
+    {
+        match file {
+            None | Some("-") => Source::Input,
+            Some(name) => Source::File(name),
+        }
+    }
 }
 
 impl<'a> fmt::Display for Source<'a> {

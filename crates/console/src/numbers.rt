@@ -7,7 +7,6 @@ ghost use Rattle.console.specs.declared.numbers.Mistake.TheVariants.{Memory};
 ghost use Rattle.console.specs.Rows.{blank as isBlankByte, FirstBlank, NextWord, RowIs, RowRefused, numbers_text};
 
 use crate::messages::Problem;
-use drawing::errors::Place;
 use rows::reader::MOST_WORDS;
 use std::alloc::{AllocError, AllocFailed, Global};
 
@@ -110,21 +109,6 @@ pub(crate) fn find_word(bytes: &[u8], word: usize) -> (usize, usize)
         (start, stop) = next_word(bytes, stop);
     }
     (start, stop)
-}
-
-// The line and column past the first `count` bytes: a byte that goes on with a character takes no column.
-pub(crate) fn place_after(bytes: &[u8], count: usize) -> Place {
-    let mut line = 1usize;
-    let mut column = 1usize;
-    for byte in bytes.iter().take(count) {
-        if *byte == b'\n' {
-            line = line.saturating_add(1);
-            column = 1;
-        } else if *byte & 0xc0 != 0x80 {
-            column = column.saturating_add(1);
-        }
-    }
-    Place { line, column }
 }
 
 // The numbers with a blank between them.

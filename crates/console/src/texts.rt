@@ -1,16 +1,19 @@
 // A clockwork's text, as a drawing or as a row of numbers, and why it is refused.
-ghost use Rattle.automata.specs.Automata.{Automaton};
+ghost use Rattle.automata.specs.Automata as automata;
 ghost use Rattle.automata.specs.Rows.{Reads};
-ghost use Rattle.std.specs.Prelude.{IfOk, string_bytes};
+ghost use Rattle.rows.specs.Views.{Views};
+ghost use Rattle.std.specs.Prelude.{◌≡◌, IfOk, string_bytes};
 ghost use Rattle.drawing.specs.Drawn.{DrawnAs};
 
 use crate::messages::{Expected, Found, Problem};
 use crate::numbers;
 use crate::numbers::Mistake;
 use drawing::Drawing;
+use drawing::errors::Place;
 use rows::reader;
 use rows::reader::MOST_WORDS;
 use rows::refusals::Rule;
+use rows::views::Automaton;
 use std::alloc::{AllocError, Global};
 
 // How a text is written.
@@ -46,7 +49,7 @@ fn refuse(
 ) -> Result<Problem, AllocError> {
     let (start, stop) = numbers::find_word(bytes, word);
     Ok(Problem::Row {
-        place: numbers::place_after(bytes, start),
+        place: Place::after(bytes, start),
         found: show_word(heap, &bytes[start..stop])?,
         expected,
     })
@@ -73,7 +76,7 @@ fn expect(rule: Rule, row: &[u32]) -> Expected {
 
 // A row that stands in a text, if it is a clockwork's. It has no names.
 fn read_row(heap: Global, bytes: &[u8]) -> Result<Drawing, Problem>
-    ensures { IfOk result (λ d. (a : Automaton) × Reads d.row.items a) }
+    ensures { IfOk result (λ d. (a : automata.Automaton) × Reads d.row.items a) }
 {
     let row = match numbers::read(heap, bytes) {
         Ok(row) => row,
@@ -96,9 +99,20 @@ fn read_row(heap: Global, bytes: &[u8]) -> Result<Drawing, Problem>
     })
 }
 
+// The clockwork of a row.
+pub fn view(row: &[u32]) -> Automaton<'_>
+    requires { (a : automata.Automaton) × Reads row.now a }
+    ensures { (result.row.now ≡ row.now) × ((a : automata.Automaton) × Views result a) }
+{
+    let Ok(automaton) = reader::read(row) else {
+        unreachable!()
+    };
+    automaton
+}
+
 // The row of the clockwork that a text is of, with the names of its clocks and positions.
 pub fn read(heap: Global, form: Form, bytes: &[u8]) -> Result<Drawing, Problem>
-    ensures { IfOk result (λ d. (a : Automaton) × Reads d.row.items a) }
+    ensures { IfOk result (λ d. (a : automata.Automaton) × Reads d.row.items a) }
 {
     match form {
         Form::Row => read_row(heap, bytes),
