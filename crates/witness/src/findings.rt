@@ -6,7 +6,7 @@ use console::messages::Problem;
 use realise::runs::Failure;
 use rows::edges::Location;
 use rows::views::Automaton;
-use search::explores::{Explored, explore};
+use search::explores::explore;
 use std::alloc::Global;
 use witnesses::answers::{Witness, witness_of};
 
@@ -34,7 +34,7 @@ pub fn find(
     let explored = explore(row, kinds, work.as_mut_slice());
     let asked = look_up(explored, location.0 as usize);
     let shown = match explored {
-        Explored::Known(table) => {
+        Ok(table) => {
             match witness_of(heap, automaton, &table, kinds, location, part) {
                 Ok(witness) => Ok(witness),
                 Err(Failure::NoRoom) => Err(NoRoom),
@@ -42,7 +42,7 @@ pub fn find(
                 Err(Failure::Astray) => return Err(Trouble::Astray),
             }
         }
-        _ => Ok(None),
+        Err(_) => Ok(None),
     };
     Ok(Finding { asked, shown })
 }

@@ -49,7 +49,7 @@ pub fn witness_of(
     let Some(arrival) = arrival_for(answer, part) else {
         return Ok(None);
     };
-    let Some(entry) = table.first(location.0 as usize) else {
+    let Some(entry) = table.first(location.0) else {
         return Err(Failure::Astray);
     };
     let Some(region) = table.region(entry) else {
