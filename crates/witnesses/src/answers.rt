@@ -45,11 +45,11 @@ pub fn witness_of(
     if location.0 >= table.locations() {
         return Err(Failure::Astray);
     }
-    let answer = table.told(location.0);
+    let answer = table.told(location.0 as usize);
     let Some(arrival) = arrival_for(answer, part) else {
         return Ok(None);
     };
-    let Some(entry) = table.first(location.0) else {
+    let Some(entry) = table.first(location.0 as usize) else {
         return Err(Failure::Astray);
     };
     let Some(region) = table.region(entry) else {
