@@ -1,9 +1,10 @@
 // Answers, times and rows as text.
 use clocks::answers::Asked;
 use grids::grid::PARTS;
-use replay::fractions::lowest;
+use replay::fractions::Fraction;
 use std::fmt;
 
+// An answer; the program `examples` has shorter words for those that are none.
 #[derive(Clone, Copy)]
 pub struct Told(pub Asked);
 
@@ -34,11 +35,11 @@ impl fmt::Display for Told {
 impl fmt::Display for Time {
     fn fmt<W: fmt::Write>(&self, f: &mut fmt::Formatter<W>) -> fmt::Result {
         let whole = self.0 / PARTS;
-        let (above, below) = lowest(self.0 % PARTS, PARTS);
-        if above == 0 {
+        let part = Fraction::lowest(self.0 % PARTS, PARTS);
+        if part.numerator == 0 {
             return write!(f, "{whole}");
         }
-        write!(f, "{whole} {above}/{below}")
+        write!(f, "{whole} {part}")
     }
 }
 
