@@ -8,7 +8,7 @@ use crate::errors::{Expected, Place, Sign};
 use crate::mistakes::Mistake;
 use crate::words::{Cut, Word, cut_word};
 
-// The next word with its place, and what of the line is past it.
+// The next word with its place, and what of the line is past it. No iterator: the word is looked at more than once before it is taken.
 #[derive(Drop)]
 pub struct Cursor<'a> {
     word: Word<'a>,

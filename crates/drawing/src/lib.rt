@@ -52,6 +52,7 @@ fn read_parts(heap: Global, text: &str) -> Result<(Names, Clockwork), Mistake> {
     }
 }
 
+// Why there is no row of what was read: the place is the end of the text.
 fn refuse_row(place: Place, unfit: Unfit) -> Refusal {
     match unfit {
         Unfit::Memory => Refusal::Memory,
