@@ -26,6 +26,7 @@ impl<T: Drop> From<AllocFailed<T>> for Mistake {
     }
 }
 
+// `is_ascii_whitespace` leaves out the vertical tab.
 fn is_blank(byte: u8) -> bool
     ensures { result ≡ isBlankByte byte }
 {
