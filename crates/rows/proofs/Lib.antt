@@ -3,3 +3,4 @@ pub mod Round
 pub mod Walking
 pub mod Whole
 pub mod Parts
+pub mod Values

@@ -9,6 +9,8 @@ use Rattle.rows.specs.declared.edges.Edge.{Edge}
 use Rattle.rows.specs.declared.views.Automaton.{Automaton}
 use Rattle.rows.specs.declared.views.Edges.{Edges}
 use Rattle.rows.specs.EdgeParts.{EdgeIs}
+use Rattle.rows.specs.Values.{conjunction_value}
+use Rattle.rows.specs.Viewed.{value_of}
 
 -- a view with these parts
 pub record Made (row : List ℕ) (clocks locations edges : ℕ) (v : Automaton) : Type 0 where
@@ -24,10 +26,14 @@ pub record Views (v : Automaton) (a : automata.Automaton) : Type 0 where
   pub locations : v.locations ≡ length a.invariants
   pub edges : drop v.edges v.row.now ≡ write_edges a.edges
 
+-- the automaton that the row of the view is the writing of
+abbrev pub automaton_value : Automaton → automata.Automaton
+automaton_value v = value_of v.row.now
+
 -- the answer is the invariant of a location, or there is none
 abbrev pub InvariantIs : option.Option (List automata.Constraint) → Option Conjunction → Type 0
 InvariantIs o None = o ≡ option.none
-InvariantIs o (Some c) = (cs : List automata.Constraint) × (o ≡ option.some cs) × (c.words.now ≡ write_constraints cs)
+InvariantIs o (Some c) = (o ≡ option.some (conjunction_value c)) × (c.words.now ≡ write_constraints (conjunction_value c))
 
 -- the words from there on are the writing of the edges
 abbrev pub EdgesAre : List automata.Edge → Edges → Type 0

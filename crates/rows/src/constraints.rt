@@ -123,14 +123,14 @@ pub fn decode_relation(word: u32) -> Relation
 
 impl<'a> Conjunction<'a> {
     pub fn len(&self) -> usize
-        ensures { (cs : List automata.Constraint) → self.now.words.now ≡ write_constraints cs → result ≡ length cs }
+        ensures { result ≡ length (conjunction_value self.now) }
     {
         self.words.len() / 3
     }
 
     // The constraint at a place, or none behind the last.
     pub fn get(&self, place: usize) -> Option<Constraint>
-        ensures { (cs : List automata.Constraint) → self.now.words.now ≡ write_constraints cs → ConstraintIs (nth cs place) result }
+        ensures { ConstraintIs (nth (conjunction_value self.now) place) result }
     {
         if place >= self.words.len() / 3 {
             return None;

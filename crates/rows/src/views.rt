@@ -2,7 +2,7 @@
 ghost use Rattle.std.specs.Prelude.{◌≡◌, ℕ, ◌-◌, List, length};
 ghost use Rattle.automata.specs.Automata as automata;
 ghost use Rattle.automata.specs.Automata.{nth};
-ghost use Rattle.rows.specs.Views.{Made, Views, InvariantIs, EdgesAre, NextEdge};
+ghost use Rattle.rows.specs.Viewed.{value_of, Viewed};
 ghost use Rattle.std.specs.Iterator.{at_most};
 
 use crate::constraints::{Conjunction, conjunction_at};
@@ -15,6 +15,7 @@ pub struct Automaton<'a> {
     locations: u32,
     // the word at which the edges begin
     edges: usize,
+    ghost viewed: { Viewed row.now clocks locations edges (value_of row.now) },
 }
 
 // The edges from a word of the row on.
@@ -25,7 +26,10 @@ pub struct Edges<'a> {
 }
 
 impl<'a> Automaton<'a> {
+    ghost use Rattle.rows.specs.Views.{Made, automaton_value, InvariantIs, EdgesAre};
+
     pub(crate) fn new(row: &'a [u32], clocks: u32, locations: u32, edges: usize) -> Self
+        requires { Viewed row.now clocks locations edges (value_of row.now) }
         ensures { Made row.now clocks locations edges result }
     {
         Automaton {
@@ -64,7 +68,7 @@ impl<'a> Automaton<'a> {
 
     // The invariant of a location, or none where there is no such location.
     pub fn invariant(&self, location: Location) -> Option<Conjunction<'a>>
-        ensures { (a : automata.Automaton) → Views self.now a → InvariantIs (nth a.invariants location.0) result }
+        ensures { InvariantIs (nth (automaton_value self.now).invariants location.0) result }
     {
         if location.0 >= self.locations {
             return None;
@@ -80,7 +84,7 @@ impl<'a> Automaton<'a> {
     }
 
     pub fn edges(&self) -> Edges<'a>
-        ensures { (a : automata.Automaton) → Views self.now a → EdgesAre a.edges result }
+        ensures { EdgesAre (automaton_value self.now).edges result }
     {
         Edges {
             row: self.row,
@@ -90,6 +94,8 @@ impl<'a> Automaton<'a> {
 }
 
 impl<'a> Iterator for Edges<'a> {
+    ghost use Rattle.rows.specs.Views.{EdgesAre, NextEdge};
+
     type Item = Edge<'a>;
 
     ghost next_gives = { λ s r t. ((es : List automata.Edge) → EdgesAre es s → NextEdge es r t) };

@@ -2,7 +2,7 @@
 use Rattle.std.proofs.Common.{◌<◌, ◌≤◌, length, get_or, refl, arith}
 use Rattle.std.proofs.lemmas.Result.{err_from_is_err_and}
 use Rattle.rows.specs.declared.refusals.Rule.TheVariants.{TooLong, Ends, Clocks, Locations}
-use Rattle.rows.proofs.Whole.{refused, accepted, parse-short, parse-long, parse-clocks, parse-locations, parse-invariants, parse-edges}
+use Rattle.rows.proofs.Whole.{refused, viewed, accepted, parse-short, parse-long, parse-clocks, parse-locations, parse-invariants, parse-edges}
 use Rattle.rows.proofs.Round.{rows_round}
 use Rattle.rows.proofs.reader.read.Goals as goal
 use Rattle.rows.proofs.reader.read.Goals.{then-clocks-lt1-via-then-clocks-lt1, then-clocks-lt1-via-else-clocks-lt1+then-clocks-gt-MOST_CLOCKS, then-locations-lt1-via-then-locations-lt1, then-locations-lt1-via-else-locations-lt1+then-locations-gt-MOST_LOCATIONS}
@@ -72,12 +72,11 @@ returns-in_err-check_edges c =
       round = rows_round;
     }
 
+pub new-requires : goal.new-requires
+new-requires c =
+    let e = c.in_ok-edges.ensures in
+    let f = c.in_ok-check_edges.ensures in
+    viewed c.args.row.now e.2.0 c.in_ok-edges.edges f.0 f.1 c.if-row-lt2.false c.if-row-gt-MOST_WORDS.false c.if-clocks-lt1.false c.if-clocks-gt-MOST_CLOCKS.false c.if-locations-lt1.false c.if-locations-gt-MOST_LOCATIONS.false e.2.1 f.2
+
 pub returns : goal.returns
-returns c =
-    record {
-      post =
-          let e = c.in_ok-edges.ensures in
-          let f = c.in_ok-check_edges.ensures in
-          accepted c.args.row.now c.new.result e.2.0 c.in_ok-edges.edges f.0 f.1 c.if-row-lt2.false c.if-row-gt-MOST_WORDS.false c.if-clocks-lt1.false c.if-clocks-gt-MOST_CLOCKS.false c.if-locations-lt1.false c.if-locations-gt-MOST_LOCATIONS.false e.2.1 f.2 c.new.ensures;
-      round = rows_round;
-    }
+returns c = record { post = accepted c.args.row.now c.new.result c.new.ensures.row_is; round = rows_round }
