@@ -4,7 +4,7 @@ ghost use Rattle.std.specs.Iterator.{at_most};
 ghost use Rattle.automata.specs.Rows.{write_constraints};
 ghost use Rattle.automata.specs.Automata.{nth};
 ghost use Rattle.automata.specs.Automata as automata;
-ghost use Rattle.automata.specs.Rows.{code};
+ghost use Rattle.automata.specs.Rows.{code, upper};
 ghost use Rattle.rows.specs.Parse.{relation_of};
 ghost use Rattle.rows.specs.Parts.{relation_value, relation_text, RelationRead, relates, ConstraintIs, ConjunctionAt};
 ghost use Rattle.rows.specs.Values.{constraints_value, conjunction_value, NextConstraint};
@@ -82,6 +82,16 @@ impl fmt::Display for Relation {
 }
 
 impl Relation {
+    // Whether it bounds a clock from above.
+    pub fn bounds_above(self) -> bool
+        ensures { result ≡ upper (relation_value self) }
+    {
+        match self {
+            Relation::AtMost | Relation::Below => true,
+            Relation::AtLeast | Relation::Above => false,
+        }
+    }
+
     // Whether the value stands so to the bound.
     pub fn holds<T: Ord + Copy>(self, value: T, bound: T) -> bool
         ensures { result ≡ relates T.cmp self value bound }

@@ -11,7 +11,7 @@ pub returns-then-row-gt-MOST_WORDS : goal.returns-then-row-gt-MOST_WORDS
 returns-then-row-gt-MOST_WORDS c =
     record {
       post =
-          refused c.args.row.now (record { rule = TooLong; word = 16384 }) (parse-long c.args.row.now c.if-row-gt-MOST_WORDS.true) (c.if-row-gt-MOST_WORDS.true, refl);
+          rw c.at.ensures (refused c.args.row.now (record { rule = TooLong; word = 16384 }) (parse-long c.args.row.now c.if-row-gt-MOST_WORDS.true) (c.if-row-gt-MOST_WORDS.true, refl));
       round = rows_round;
     }
 
@@ -19,7 +19,7 @@ pub returns-then-row-lt2 : goal.returns-then-row-lt2
 returns-then-row-lt2 c =
     record {
       post =
-          refused c.args.row.now (record { rule = Ends; word = length c.args.row.now }) (parse-short c.args.row.now c.if-row-lt2.true) refl;
+          rw c.at-then-row-lt2.ensures (refused c.args.row.now (record { rule = Ends; word = length c.args.row.now }) (parse-short c.args.row.now c.if-row-lt2.true) refl);
       round = rows_round;
     }
 
@@ -32,7 +32,7 @@ returns-then-clocks-lt1 c =
             | then-clocks-lt1-via-then-clocks-lt1 w ↦ λ h. omega (arith, w.if-clocks-lt1.true)
             | then-clocks-lt1-via-else-clocks-lt1+then-clocks-gt-MOST_CLOCKS w ↦ λ h. w.if-clocks-gt-MOST_CLOCKS.true
           ] in
-          refused c.args.row.now (record { rule = Clocks; word = 0 }) (parse-clocks c.args.row.now out) (refl, out);
+          rw c.at-then-clocks-lt1.ensures (refused c.args.row.now (record { rule = Clocks; word = 0 }) (parse-clocks c.args.row.now out) (refl, out));
       round = rows_round;
     }
 
@@ -45,7 +45,7 @@ returns-then-locations-lt1 c =
             | then-locations-lt1-via-then-locations-lt1 w ↦ λ h. omega (arith, w.if-locations-lt1.true)
             | then-locations-lt1-via-else-locations-lt1+then-locations-gt-MOST_LOCATIONS w ↦ λ h. w.if-locations-gt-MOST_LOCATIONS.true
           ] in
-          refused c.args.row.now (record { rule = Locations; word = 1 }) (parse-locations c.args.row.now out) (refl, out);
+          rw c.at-then-locations-lt1.ensures (refused c.args.row.now (record { rule = Locations; word = 1 }) (parse-locations c.args.row.now out) (refl, out));
       round = rows_round;
     }
 
