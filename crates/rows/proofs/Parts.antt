@@ -2,10 +2,8 @@
 use Rattle.std.proofs.Common.{◌≡◌, ℕ, zero, suc, ◌+◌, ◌-◌, ◌*◌, ◌<◌, ◌≤◌, List, [], ◌∷◌, ◌++◌, length, get_or, take, drop, sym, refl, ap, ◌∙◌, subst, append_assoc, add-one, arith, length-append, length-drop, drop-cons, drop-drop}
 use mathlib.Core.Option.{some, none}
 use lib.Seq.{drop-append_seam}
-use Rattle.automata.specs.Automata.{nth, Relation, Constraint}
-use Rattle.automata.specs.Rows.{code, write_constraints, write_invariants}
-use Rattle.rows.specs.Parse.{constraint}
-use Rattle.rows.proofs.Round.{relation_of-code}
+use Rattle.automata.specs.Automata.{nth, Constraint}
+use Rattle.automata.specs.Rows.{write_constraints, write_invariants}
 
 pub nth-behind : {A : Type 0} (xs : List A) (i : ℕ) → length xs ≤ i → nth xs i ≡ none
 nth-behind [] i h = refl
@@ -20,10 +18,10 @@ length-constraints (c ∷ cs) = omega (arith, length-constraints cs)
 pub starts_within : (row : List ℕ) (at : ℕ) (w : ℕ) (ws : List ℕ) → drop at row ≡ w ∷ ws → at < length row
 starts_within row at w ws e = let l : length (drop at row) ≡ suc (length ws) = ap length e in omega (arith, simp length-drop at l)
 
-head_is : (a b : ℕ) (xs ys : List ℕ) → a ∷ xs ≡ b ∷ ys → a ≡ b
+pub head_is : (a b : ℕ) (xs ys : List ℕ) → a ∷ xs ≡ b ∷ ys → a ≡ b
 head_is a b xs ys e = cc
 
-tail_is : (a b : ℕ) (xs ys : List ℕ) → a ∷ xs ≡ b ∷ ys → xs ≡ ys
+pub tail_is : (a b : ℕ) (xs ys : List ℕ) → a ∷ xs ≡ b ∷ ys → xs ≡ ys
 tail_is a b xs ys e = cc
 
 pub first-is : (row : List ℕ) (at w : ℕ) (ws : List ℕ) → drop at row ≡ w ∷ ws → get_or row at 0 ≡ w

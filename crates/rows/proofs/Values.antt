@@ -1,6 +1,6 @@
 -- What words and views stand for, where they are the writing of constraints, an edge or an automaton.
-use Rattle.std.proofs.Common.{◌≡◌, ℕ, zero, suc, ◌+◌, ◌*◌, ◌/◌, ◌<◌, ◌≤◌, List, [], ◌∷◌, length, get_or, Some, sym, refl, ap, subst, ◌∙◌, arith}
-use mathlib.Core.Option.{Option, some, none}
+use Rattle.std.proofs.Common.{◌≡◌, ℕ, zero, suc, ◌+◌, ◌*◌, ◌/◌, ◌<◌, List, [], ◌∷◌, length, get_or, Some, sym, refl, ap, subst, ◌∙◌, arith}
+use mathlib.Core.Option.{Option, some}
 use Rattle.automata.specs.Automata as automata
 use Rattle.automata.specs.Automata.{nth}
 use Rattle.automata.specs.Rows.{Reads, write_constraints}
@@ -8,9 +8,9 @@ use Rattle.rows.specs.declared.constraints.Conjunction.{Conjunction}
 use Rattle.rows.specs.declared.edges.Edge.{Edge}
 use Rattle.rows.specs.declared.views.Automaton.{Automaton}
 use Rattle.rows.specs.EdgeParts.{EdgeIs}
-use Rattle.rows.specs.Parse.{parse, constraint}
+use Rattle.rows.specs.Parse.{constraint}
 use Rattle.rows.specs.Values.{constraints_value, conjunction_value, edge_value}
-use Rattle.rows.specs.Viewed.{or_nothing, value_of, Viewed}
+use Rattle.rows.specs.Viewed.{or_nothing, value_of}
 use Rattle.rows.specs.Views.{Views, automaton_value, InvariantIs}
 use Rattle.rows.proofs.Round.{relation_of-code, complete}
 

@@ -9,6 +9,7 @@ ghost use Rattle.rows.specs.Parse.{relation_of};
 ghost use Rattle.rows.specs.Parts.{relation_value, relation_text, RelationRead, relates, ConstraintIs, ConjunctionAt};
 ghost use Rattle.rows.specs.Values.{constraints_value, conjunction_value, NextConstraint};
 
+use crate::counted::part_at;
 use std::error::Error;
 use std::fmt;
 
@@ -197,18 +198,6 @@ pub fn conjunction_at(row: &[u32], at: usize) -> Option<(Conjunction<'_>, usize)
     ensures part { (cs : List automata.Constraint) (rest : List ℕ) → drop at row.now ≡ length cs ∷ (write_constraints cs ++ rest) → ConjunctionAt row.now cs rest result }
     ensures further { IfSome result (λ c. (at < c.1) × (c.1 ≤ length row.now)) }
 {
-    if at >= row.len() {
-        return None;
-    }
-    let count = row[at] as usize;
-    if count > (row.len() - at - 1) / 3 {
-        return None;
-    }
-    let end = at + 1 + 3 * count;
-    Some((
-        Conjunction {
-            words: &row[at + 1..end],
-        },
-        end,
-    ))
+    let (words, end) = part_at(row, at, 3)?;
+    Some((Conjunction { words }, end))
 }

@@ -32,7 +32,11 @@ impl Owner {
 }
 
 // Reads a number of parts from a place on, each where the one before ends: where the last ends.
-fn check_each<F: Fn(usize) -> Result<usize, Refusal>>(count: u32, from: usize, check: F) -> Result<usize, Refusal>
+fn check_each<F: Fn(usize) -> Result<usize, Refusal>>(
+    count: u32,
+    from: usize,
+    check: F,
+) -> Result<usize, Refusal>
     requires { F.IsAlwaysCallable check }
     ensures { Repeated (F.post check) count from result }
 {
@@ -91,7 +95,11 @@ impl Reader<'_> {
     fn check_invariants(&self) -> Result<usize, Refusal>
         ensures { Tells (parse_invariants self.now.clocks self.now.locations) self.now.row.now 2 result }
     {
-        check_each(self.locations, 2, |next| self.check_conjunction(next, Owner::Location))
+        check_each(
+            self.locations,
+            2,
+            |next| self.check_conjunction(next, Owner::Location),
+        )
     }
 
     // The number of a clock: where it ends.

@@ -1,5 +1,5 @@
 -- The first call that refuses refuses all.
-use Rattle.std.proofs.Common.{add-one, arith}
+use Rattle.std.proofs.Common.{add-one}
 use Rattle.std.proofs.lemmas.Result.{err_from_is_err_and}
 use Rattle.rows.proofs.reader.check_each.Goals as goal
 

@@ -1,5 +1,5 @@
 -- The three words at a place are those of the constraint there.
-use Rattle.std.proofs.Common.{◌≡◌, ℕ, ◌+◌, ◌*◌, List, get_or, sym, ap, ◌∙◌, arith}
+use Rattle.std.proofs.Common.{ℕ, ◌+◌, ◌*◌, List, get_or, sym, ap, ◌∙◌, arith}
 use mathlib.Core.Option.{some}
 use Rattle.automata.specs.Automata.{Relation}
 use Rattle.rows.proofs.Parts.{nth-behind}

@@ -9,9 +9,9 @@ returns-then-at-row c = rw c.at.ensures (clock-ends c.args.self.now.clocks c.arg
 pub returns-then-row-at : goal.returns-then-row-at
 returns-then-row-at c =
     rw c.at-then-row-at.ensures (
-  clock-none c.args.self.now.clocks c.args.self.now.row.now c.args.at c.if-at-row.false c.if-row-at.true,
-  omega arith,
-)
+      clock-none c.args.self.now.clocks c.args.self.now.row.now c.args.at c.if-at-row.false c.if-row-at.true,
+      omega arith,
+    )
 
 pub returns : goal.returns
 returns c = (
