@@ -1,18 +1,14 @@
 -- The text of a run: a line for each move, with the time, the position and the clocks after it.
-use Rattle.std.specs.Prelude.{◌≡◌, ℕ, zero, suc, ◌-◌, min, cond, List, [], ◌∷◌, ◌++◌, length, codes, decimal, ◌==◌, slice_index}
+use Rattle.std.specs.Prelude.{◌≡◌, ℕ, zero, suc, ◌-◌, min, List, [], ◌∷◌, ◌++◌, length, codes, decimal, slice_index}
 use Rattle.std.specs.Str.{chars}
 use Rattle.automata.specs.Automata.{Automaton}
 use Rattle.replay.specs.declared.moments.Move.{Move}
 use Rattle.replay.specs.declared.moments.Move.TheVariants.{Wait, Step}
 use Rattle.replay.specs.declared.moments.Moment.{Moment}
-use Rattle.replay.specs.Fractions.{Lowest}
+use Rattle.replay.specs.Fractions.{Lowest, ratio_text}
 use Rattle.replay.specs.Meaning.{clock_of}
 use Rattle.replay.specs.Outcomes.{AtStart, Advanced}
 use Rattle.accounts.specs.declared.columns.Widths.{Widths}
-
--- a whole number stands without its 1
-abbrev pub ratio_text : ℕ → ℕ → List ℕ
-ratio_text p q = cond (q == 1) (decimal p) (decimal p ++ (codes "/" ++ decimal q))
 
 -- the text of k d-ths: the same fraction in lowest terms
 pub record PartsText (d k : ℕ) (words : List ℕ) : Type 0 where

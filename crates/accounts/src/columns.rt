@@ -3,7 +3,7 @@ ghost use Rattle.std.specs.Prelude.{string_bytes, OnOk};
 ghost use Rattle.clockworks.specs.Meaning.{Adds};
 ghost use Rattle.accounts.specs.Lines.{blanks, padded};
 
-use replay::moments::MOST_CLOCKS;
+use rows::limits::CLOCKS;
 use std::alloc::AllocError;
 
 // How wide each column of a run is, in characters.
@@ -12,7 +12,7 @@ pub struct Widths {
     pub moves: usize,
     pub times: usize,
     pub positions: usize,
-    pub clocks: [usize; MOST_CLOCKS],
+    pub clocks: [usize; CLOCKS],
 }
 
 fn write_blanks(text: &mut String, count: usize) -> Result<(), AllocError>

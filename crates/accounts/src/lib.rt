@@ -3,7 +3,6 @@
 
 pub mod bounds;
 mod columns;
-mod fractions;
 pub mod names;
 mod pieces;
 pub mod runs;

@@ -2,7 +2,7 @@
 ghost use Rattle.std.specs.Prelude.{◌≡◌, ℕ, List, ◌++◌, IfOk, string_bytes, codes};
 ghost use Rattle.accounts.specs.Lines.{PartsText, MoveText};
 
-use crate::fractions::write_parts;
+use replay::fractions::Fraction;
 use replay::moments::Move;
 use std::alloc::{AllocError, Global};
 
@@ -10,17 +10,12 @@ use std::alloc::{AllocError, Global};
 pub fn move_cell(heap: Global, denominator: u64, by: Move) -> Result<String, AllocError>
     ensures { IfOk result (λ cell. MoveText denominator by (string_bytes cell)) }
 {
-    let mut cell = String::new(heap);
     match by {
         Move::Wait(parts) => {
-            write!(cell, "wait ")?;
-            write_parts(&mut cell, parts, denominator)?;
-            Ok(cell)
+            let delay = Fraction::lowest(parts, denominator);
+            format!(in heap; "wait {delay}")
         }
-        Move::Step(number) => {
-            write!(cell, "step {number}")?;
-            Ok(cell)
-        }
+        Move::Step(number) => format!(in heap; "step {number}"),
     }
 }
 
@@ -28,10 +23,8 @@ pub fn move_cell(heap: Global, denominator: u64, by: Move) -> Result<String, All
 pub fn time_cell(heap: Global, denominator: u64, time: u64) -> Result<String, AllocError>
     ensures { IfOk result (λ cell. (words : List ℕ) × PartsText denominator time words × (string_bytes cell ≡ codes "at " ++ words)) }
 {
-    let mut cell = String::new(heap);
-    write!(cell, "at ")?;
-    write_parts(&mut cell, time, denominator)?;
-    Ok(cell)
+    let time = Fraction::lowest(time, denominator);
+    format!(in heap; "at {time}")
 }
 
 // `x = 1/3`.
@@ -43,8 +36,6 @@ pub fn clock_cell(
 ) -> Result<String, AllocError>
     ensures { IfOk result (λ cell. (words : List ℕ) × PartsText denominator value words × (string_bytes cell ≡ (name.now ++ codes " = ") ++ words)) }
 {
-    let mut cell = String::new(heap);
-    write!(cell, "{name} = ")?;
-    write_parts(&mut cell, value, denominator)?;
-    Ok(cell)
+    let value = Fraction::lowest(value, denominator);
+    format!(in heap; "{name} = {value}")
 }

@@ -9,8 +9,9 @@ ghost use Rattle.accounts.specs.Lines.{ClocksText, LineText, Lines, Account};
 use crate::columns::{Widths, write_padded};
 use crate::names::{Names, name_of};
 use crate::pieces::{clock_cell, move_cell, time_cell};
-use replay::moments::{Fault, MOST_CLOCKS, Moment, Move};
+use replay::moments::{Fault, Moment, Move};
 use replay::runs::{advance, begin};
+use rows::limits::CLOCKS;
 use rows::views::Automaton;
 use std::alloc::{AllocError, Global};
 
@@ -52,7 +53,7 @@ fn widths_with(
     after: &Moment,
 ) -> Result<Widths, AllocError> {
     let mut clocks = widths.clocks;
-    for clock in 0..names.clocks.len().min(MOST_CLOCKS) {
+    for clock in 0..names.clocks.len().min(CLOCKS) {
         let name = name_of(names.clocks, clock);
         let cell = clock_cell(heap, name, denominator, after.clocks[clock])?;
         clocks[clock] = wider(clocks[clock], cell.as_str());
@@ -71,7 +72,7 @@ fn widths_with(
 // The widths of columns with no blanks after the last.
 fn without_last(widths: Widths, clocks: usize) -> Widths {
     let mut widest = widths.clocks;
-    if 0 < clocks && clocks <= MOST_CLOCKS {
+    if 0 < clocks && clocks <= CLOCKS {
         widest[clocks - 1] = 0;
     }
     Widths {
@@ -94,7 +95,7 @@ fn measure(
         moves: 0,
         times: 0,
         positions: 0,
-        clocks: [0; MOST_CLOCKS],
+        clocks: [0; CLOCKS],
     };
     let mut moment = begin(automaton)?;
     for next in moves {
@@ -114,7 +115,7 @@ fn write_clocks(
 ) -> Result<(), AllocError>
     ensures { OnOk result ((words : List ℕ) × ClocksText string_bytes names.now widths.now denominator moment.now (min (length names.now) 8) words × Adds (string_bytes text.old) words (string_bytes text.new)) }
 {
-    for clock in 0..names.len().min(MOST_CLOCKS) {
+    for clock in 0..names.len().min(CLOCKS) {
         let name = name_of(names, clock);
         let cell = clock_cell(heap, name, denominator, moment.clocks[clock])?;
         write!(text, "  ")?;

@@ -1,20 +1,5 @@
 // A clockwork in parts: positions with their tests, and steps. Clocks and positions go by number, from 0.
-
-// How a clock is compared with a whole number.
-#[derive(Clone, Copy)]
-pub enum Relation {
-    AtMost,
-    Below,
-    AtLeast,
-    Above,
-}
-
-#[derive(Clone, Copy)]
-pub struct Test {
-    pub clock: u32,
-    pub relation: Relation,
-    pub bound: u32,
-}
+pub use rows::constraints::{Clock, Constraint as Test, Relation};
 
 // The tests of a position have to hold as long as the clockwork is there.
 #[derive(Drop)]

@@ -1,22 +1,19 @@
 // A clockwork is written as its row of numbers. What is out of range, or too much, is refused.
-ghost use Rattle.std.specs.Prelude.{◌≡◌, true, [], ◌∷◌, IfOk, OnOk};
-ghost use Rattle.automata.specs.Rows.{Reads, code as number, upper};
-ghost use Rattle.clockworks.specs.Meaning.{relation_of, automaton, Adds, test_words, tests_words, resets_words, position_words, positions_words, step_words, steps_words, FineTest, FineTests, FineResets, FinePosition, FinePositions, FineStep, FineSteps, all_upper};
+ghost use Rattle.std.specs.Prelude.{◌≡◌, ℕ, Bool, true, List, [], ◌∷◌, length, IfOk, OnOk, ltb};
+ghost use Rattle.std.specs.List.{flat_map, list_all};
+ghost use Rattle.automata.specs.Rows.{Reads, upper, fine_constraint, fine_invariant, fine_edge};
+ghost use Rattle.rows.specs.Parts.{relation_value, constraint_value};
+ghost use Rattle.clockworks.specs.Meaning.{invariant_of, edge, automaton, test_words, position_words, step_words, all_upper, Wrote};
 
 use crate::parts::{Clockwork, Position, Relation, Step, Test};
+use rows::constraints::UnknownRelation;
+use rows::limits::{LOCATIONS, MOST_BOUND, MOST_CLOCKS, MOST_WORDS};
 use std::alloc::{AllocError, AllocFailed, Global};
+use std::error::Error;
 use std::fmt;
 
-pub const MOST_CLOCKS: u32 = 8;
-
-pub const MOST_POSITIONS: usize = 256;
-
-pub const MOST_BOUND: u32 = 10_000;
-
-pub const MOST_WORDS: usize = 16_384;
-
 // Why a clockwork has no row, or a row is no clockwork's.
-#[derive(Clone, Copy, Debug, PartialEq)]
+#[derive(Clone, Copy, Debug, PartialEq, Eq)]
 pub enum Unfit {
     Memory,
     Clocks,
@@ -49,6 +46,8 @@ impl fmt::Display for Unfit {
     }
 }
 
+impl Error for Unfit {}
+
 impl From<AllocError> for Unfit {
     fn from(_e: AllocError) -> Unfit {
         Unfit::Memory
@@ -61,6 +60,12 @@ impl<T: Drop> From<AllocFailed<T>> for Unfit {
     }
 }
 
+impl From<UnknownRelation> for Unfit {
+    fn from(_e: UnknownRelation) -> Unfit {
+        Unfit::Relation
+    }
+}
+
 // Only want of memory keeps a text from being written.
 impl From<fmt::Error> for Unfit {
     fn from(_e: fmt::Error) -> Unfit {
@@ -68,130 +73,130 @@ impl From<fmt::Error> for Unfit {
     }
 }
 
-fn code(relation: Relation) -> u32
-    ensures { result ≡ number (relation_of relation) }
-{
-    match relation {
-        Relation::AtMost => 0,
-        Relation::Below => 1,
-        Relation::AtLeast => 2,
-        Relation::Above => 3,
-    }
+// The row as far as it is written, and the clocks and positions that its parts may name.
+#[derive(Drop)]
+struct Writer {
+    row: Vec<u32>,
+    clocks: u32,
+    positions: usize,
 }
 
-fn write_count(row: &mut Vec<u32>, count: usize) -> Result<(), Unfit>
-    ensures { OnOk result (Adds row.old.items (count ∷ []) row.new.items) }
-{
-    if count > MOST_WORDS {
-        return Err(Unfit::Words);
-    }
-    row.push(count as u32)?;
-    Ok(())
+// A part of a clockwork, or a clock that is set back.
+trait Part {
+    ghost words: { Self → List ℕ };
+
+    // whether it fits so many clocks and positions
+    ghost fits: { ℕ → ℕ → Self → Bool };
+
+    fn write(&self, writer: &mut Writer) -> Result<(), Unfit>
+        ensures { OnOk result (Wrote writer.old writer.new (words self.now) (λ n p. fits n p self.now)) };
 }
 
-fn write_test(row: &mut Vec<u32>, clocks: u32, test: Test) -> Result<(), Unfit>
-    ensures { OnOk result (Adds row.old.items (test_words test) row.new.items × FineTest clocks test) }
-{
-    if test.clock >= clocks {
-        return Err(Unfit::Clock);
-    }
-    if test.bound > MOST_BOUND {
-        return Err(Unfit::Bound);
-    }
-    row.push(test.clock)?;
-    row.push(code(test.relation))?;
-    row.push(test.bound)?;
-    Ok(())
-}
-
-fn write_tests(row: &mut Vec<u32>, clocks: u32, tests: &[Test]) -> Result<(), Unfit>
-    ensures { OnOk result (Adds row.old.items (tests_words tests.now) row.new.items × FineTests clocks tests.now) }
-{
-    write_count(row, tests.len())?;
-    for test in tests {
-        write_test(row, clocks, *test)?;
-    }
-    Ok(())
-}
-
-fn write_resets(row: &mut Vec<u32>, clocks: u32, resets: &[u32]) -> Result<(), Unfit>
-    ensures { OnOk result (Adds row.old.items (resets_words resets.now) row.new.items × FineResets clocks resets.now) }
-{
-    write_count(row, resets.len())?;
-    for clock in resets {
-        if *clock >= clocks {
-            return Err(Unfit::Clock);
+impl Writer {
+    fn count(&mut self, count: usize) -> Result<(), Unfit>
+        ensures { OnOk result (Wrote self.old self.new (count ∷ []) (λ _ _. true)) }
+    {
+        if count > MOST_WORDS {
+            return Err(Unfit::Words);
         }
-        row.push(*clock)?;
+        self.row.push(count as u32)?;
+        Ok(())
     }
-    Ok(())
+
+    fn all<P: Part>(&mut self, parts: &[P]) -> Result<(), Unfit>
+        ensures { OnOk result (Wrote self.old self.new (flat_map P.words parts.now) (λ n p. list_all (P.fits n p) parts.now)) }
+    {
+        for part in parts {
+            part.write(self)?;
+        }
+        Ok(())
+    }
+
+    // The parts, with their count before them.
+    fn list<P: Part>(&mut self, parts: &[P]) -> Result<(), Unfit>
+        ensures { OnOk result (Wrote self.old self.new (length parts.now ∷ flat_map P.words parts.now) (λ n p. list_all (P.fits n p) parts.now)) }
+    {
+        self.count(parts.len())?;
+        self.all(parts)?;
+        Ok(())
+    }
 }
 
 fn bounds_above(relation: Relation) -> bool
-    ensures { result ≡ upper (relation_of relation) }
+    ensures { result ≡ upper (relation_value relation) }
 {
-    match relation {
-        Relation::AtMost | Relation::Below => true,
-        Relation::AtLeast | Relation::Above => false,
-    }
+    matches!(relation, Relation::AtMost | Relation::Below)
 }
 
 fn all_bound_above(tests: &[Test]) -> bool
-    ensures { result ≡ true → all_upper tests.now ≡ true }
+    ensures { result ≡ all_upper tests.now }
 {
-    for test in tests {
-        if !bounds_above(test.relation) {
-            return false;
+    tests.iter().all(|test| bounds_above(test.relation))
+}
+
+impl Part for u32 {
+    ghost words = { λ clock. clock ∷ [] };
+
+    ghost fits = { λ n p clock. ltb clock n };
+
+    fn write(&self, writer: &mut Writer) -> Result<(), Unfit> {
+        if *self >= writer.clocks {
+            return Err(Unfit::Clock);
         }
+        writer.row.push(*self)?;
+        Ok(())
     }
-    true
 }
 
-fn write_position(row: &mut Vec<u32>, clocks: u32, position: &Position) -> Result<(), Unfit>
-    ensures { OnOk result (Adds row.old.items (position_words position.now) row.new.items × FinePosition clocks position.now) }
-{
-    let tests = position.tests.as_slice();
-    if !all_bound_above(tests) {
-        return Err(Unfit::Lower);
+impl Part for Test {
+    ghost words = { test_words };
+
+    ghost fits = { λ n p test. fine_constraint n (constraint_value test) };
+
+    fn write(&self, writer: &mut Writer) -> Result<(), Unfit> {
+        if self.clock.0 >= writer.clocks {
+            return Err(Unfit::Clock);
+        }
+        if self.bound > MOST_BOUND {
+            return Err(Unfit::Bound);
+        }
+        writer.row.push(self.clock.0)?;
+        writer.row.push(u32::from(self.relation))?;
+        writer.row.push(self.bound)?;
+        Ok(())
     }
-    write_tests(row, clocks, tests)?;
-    Ok(())
 }
 
-fn write_positions(row: &mut Vec<u32>, clocks: u32, positions: &[Position]) -> Result<(), Unfit>
-    ensures { OnOk result (Adds row.old.items (positions_words positions.now) row.new.items × FinePositions clocks positions.now) }
-{
-    for position in positions {
-        write_position(row, clocks, position)?;
+impl Part for Position {
+    ghost words = { position_words };
+
+    ghost fits = { λ n p position. fine_invariant n (invariant_of position) };
+
+    fn write(&self, writer: &mut Writer) -> Result<(), Unfit> {
+        let tests = self.tests.as_slice();
+        if !all_bound_above(tests) {
+            return Err(Unfit::Lower);
+        }
+        writer.list(tests)?;
+        Ok(())
     }
-    Ok(())
 }
 
-fn write_step(row: &mut Vec<u32>, clocks: u32, positions: usize, step: &Step) -> Result<(), Unfit>
-    ensures { OnOk result (Adds row.old.items (step_words step.now) row.new.items × FineStep clocks positions step.now) }
-{
-    if step.source as usize >= positions || step.target as usize >= positions {
-        return Err(Unfit::Position);
-    }
-    row.push(step.source)?;
-    row.push(step.target)?;
-    write_tests(row, clocks, step.tests.as_slice())?;
-    write_resets(row, clocks, step.resets.as_slice())?;
-    Ok(())
-}
+impl Part for Step {
+    ghost words = { step_words };
 
-fn write_steps(
-    row: &mut Vec<u32>,
-    clocks: u32,
-    positions: usize,
-    steps: &[Step],
-) -> Result<(), Unfit>
-    ensures { OnOk result (Adds row.old.items (steps_words steps.now) row.new.items × FineSteps clocks positions steps.now) }
-{
-    for step in steps {
-        write_step(row, clocks, positions, step)?;
+    ghost fits = { λ n p step. fine_edge n p (edge step) };
+
+    fn write(&self, writer: &mut Writer) -> Result<(), Unfit> {
+        if self.source as usize >= writer.positions || self.target as usize >= writer.positions {
+            return Err(Unfit::Position);
+        }
+        writer.row.push(self.source)?;
+        writer.row.push(self.target)?;
+        writer.list(self.tests.as_slice())?;
+        writer.list(self.resets.as_slice())?;
+        Ok(())
     }
-    Ok(())
 }
 
 // The row of a clockwork.
@@ -203,16 +208,20 @@ pub fn write_row(heap: Global, clockwork: &Clockwork) -> Result<Vec<u32>, Unfit>
     if clocks < 1 || clocks > MOST_CLOCKS {
         return Err(Unfit::Clocks);
     }
-    if positions < 1 || positions > MOST_POSITIONS {
+    if positions < 1 || positions > LOCATIONS {
         return Err(Unfit::Positions);
     }
     let mut row = Vec::new(heap);
     row.push(clocks)?;
-    write_count(&mut row, positions)?;
-    write_positions(&mut row, clocks, clockwork.positions.as_slice())?;
-    write_steps(&mut row, clocks, positions, clockwork.steps.as_slice())?;
-    if row.len() > MOST_WORDS {
+    let mut writer = Writer {
+        row,
+        clocks,
+        positions,
+    };
+    writer.list(clockwork.positions.as_slice())?;
+    writer.all(clockwork.steps.as_slice())?;
+    if writer.row.len() > MOST_WORDS {
         return Err(Unfit::Words);
     }
-    Ok(row)
+    Ok(writer.row)
 }

@@ -1,20 +1,17 @@
 -- A text that is written line by line: what a loop over tests, clocks, positions or steps has come to.
 use Rattle.std.proofs.Common.{◌≡◌, ℕ, suc, ◌+◌, ◌<◌, ◌≤◌, true, List, [], ◌∷◌, ◌++◌, map, length, get_or, drop, codes, sym, refl, ap, ◌∙◌, append_assoc, append-nil, add-one, arith}
+use Rattle.std.specs.List.{flat_map}
 use Rattle.std.proofs.lemmas.List.{at_drop_more, at_drop_all}
-use Rattle.clockworks.specs.declared.parts.Test.{Test}
+use Rattle.std.proofs.lemmas.List.Folds.{flat_map-map}
+use Rattle.rows.specs.declared.constraints.Constraint.{Constraint as Test}
 use Rattle.clockworks.specs.declared.parts.Position.{Position}
-use Rattle.clockworks.specs.Meaning.{Adds, constraint, constraints, invariant_of, edge}
+use Rattle.rows.specs.Parts.{constraint_value}
+use Rattle.clockworks.specs.Meaning.{Adds, constraints, invariant_of, edge}
 use Rattle.clockworks.proofs.Writing.{Walk, adds_more, adds_same}
 use Rattle.drawing.specs.Sheets.{test_text, more_tests, tests_text, clock_text, first_clocks, each_clock, resets_text, position_line, position_lines, step_line, step_lines}
 
-pub tests_walk : Walk (λ t. test_text (codes ",") (constraint t)) (λ ts. more_tests (constraints ts)) (λ _. true) (λ _. true)
-tests_walk = record { no_words = refl; more_words = λ _ _. refl; none_fits = refl; more_fit = λ _ _. refl }
-
-pub clocks_walk : Walk clock_text each_clock (λ _. true) (λ _. true)
-clocks_walk = record { no_words = refl; more_words = λ _ _. refl; none_fits = refl; more_fit = λ _ _. refl }
-
-pub steps_walk : Walk (λ s. step_line (edge s)) (λ ss. step_lines (map edge ss)) (λ _. true) (λ _. true)
-steps_walk = record { no_words = refl; more_words = λ _ _. refl; none_fits = refl; more_fit = λ _ _. refl }
+pub text_walk : {X : Type 0} (w : X → List ℕ) → Walk w (flat_map w) (λ _. true) (λ _. true)
+text_walk w = record { no_words = refl; more_words = λ _ _. refl; none_fits = refl; more_fit = λ _ _. refl }
 
 pub adds_none : {xs : List ℕ} → Adds xs [] xs
 adds_none {xs = xs} = record { longer = sym (append-nil xs) }
@@ -38,13 +35,11 @@ pub left-none : {text : List ℕ} (start : List ℕ) (ps : List Position) (i : �
 left-none {text = text} start ps i le h =
     record { longer = sym (ap (λ (l : List ℕ). text ++ l) (at_drop_all (λ l. position_lines i (map invariant_of l)) ps i le) ∙ append-nil text) ∙ h.rest }
 
-pub tests_none : (word : List ℕ) (ts : List Test) → length ts < 1 → tests_text word (constraints ts) ≡ []
-tests_none word [] lt = refl
-tests_none word (t ∷ ts) lt = absurd (omega arith)
-
-pub tests_first : (word : List ℕ) (ts : List Test) (d : Test) → 1 ≤ length ts → tests_text word (constraints ts) ≡ test_text word (constraint (get_or ts 0 d)) ++ more_tests (constraints (drop 1 ts))
-tests_first word [] d le = absurd (omega arith)
-tests_first word (t ∷ ts) d le = refl
+-- the first test, and the others behind it
+pub tests_first : (word : List ℕ) (ts rest : List Test) (t : Test) → ts ≡ t ∷ rest → tests_text word (constraints ts) ≡ test_text word (constraint_value t) ++ flat_map (λ u. test_text (codes ",") (constraint_value u)) rest
+tests_first word ts rest t e =
+    ap (λ (l : List Test). tests_text word (constraints l)) e
+    ∙ ap (λ (l : List ℕ). test_text word (constraint_value t) ++ l) (flat_map-map (test_text (codes ",")) constraint_value rest)
 
 pub resets-some : (rs : List ℕ) → (length rs ≡ 0 → ⊥) → resets_text rs ≡ codes " reset" ++ each_clock rs
 resets-some [] ne = absurd (ne refl)

@@ -1,7 +1,7 @@
 -- A part that is put behind the others adds its size to theirs, and the sizes of all are the length of the row.
 use Rattle.std.proofs.Common.{◌≡◌, ◌+◌, ◌*◌, List, [], ◌∷◌, ◌++◌, map, length, vec_items, ap, ◌∙◌, arith, length-append}
 use Rattle.automata.specs.Rows.{write, write_constraints, write_invariants, write_edges}
-use Rattle.clockworks.specs.declared.parts.Test.{Test}
+use Rattle.rows.specs.declared.constraints.Constraint.{Constraint as Test}
 use Rattle.clockworks.specs.declared.parts.Position.{Position}
 use Rattle.clockworks.specs.declared.parts.Step.{Step}
 use Rattle.clockworks.specs.declared.parts.Clockwork.{Clockwork}

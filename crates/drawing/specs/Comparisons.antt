@@ -1,7 +1,8 @@
 -- What a sign between a clock and a number means, and the tests that it stands for.
 use Rattle.std.specs.Prelude.{ℕ, List, [], ◌∷◌, Some, None, Option}
-use Rattle.clockworks.specs.declared.parts.Relation.TheVariants.{AtMost, Below, AtLeast, Above}
-use Rattle.clockworks.specs.declared.parts.Test.{Test}
+use Rattle.rows.specs.declared.constraints.Relation.TheVariants.{AtMost, Below, AtLeast, Above}
+use Rattle.rows.specs.declared.constraints.Clock.{Clock}
+use Rattle.rows.specs.declared.constraints.Constraint.{Constraint as Test}
 use Rattle.drawing.specs.declared.errors.Sign.{Sign}
 use Rattle.drawing.specs.declared.errors.Sign.TheVariants as sign
 use Rattle.drawing.specs.declared.reader.Comparison.{Comparison}
@@ -10,7 +11,7 @@ use Rattle.drawing.specs.declared.reader.Owner.{Owner}
 use Rattle.drawing.specs.declared.reader.Owner.TheVariants.{Position, Step}
 
 -- `=` stands for at most and then at least
-abbrev pub tests_of : ℕ → Comparison → ℕ → List Test
+abbrev pub tests_of : Clock → Comparison → ℕ → List Test
 tests_of x (One r) m = record { clock = x; relation = r; bound = m } ∷ []
 tests_of x Equal m = record { clock = x; relation = AtMost; bound = m } ∷ record { clock = x; relation = AtLeast; bound = m } ∷ []
 

@@ -5,3 +5,4 @@ pub mod Words
 pub mod Comparisons
 pub mod Sizes
 pub mod Explained
+pub mod Places

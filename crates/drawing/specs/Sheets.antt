@@ -1,21 +1,16 @@
 -- The text that a row is drawn as. Clocks are named x0, x1, .., and positions p0, p1, ..
 use Rattle.std.specs.Prelude.{ℕ, zero, suc, List, [], ◌∷◌, ◌++◌, codes, decimal}
-use Rattle.automata.specs.Automata.{Relation, at_most, below, at_least, above, Constraint, Edge, Automaton}
-
-abbrev pub sign_text : Relation → List ℕ
-sign_text at_most = codes "<="
-sign_text below = codes "<"
-sign_text at_least = codes ">="
-sign_text above = codes ">"
+use Rattle.std.specs.List.{flat_map}
+use Rattle.automata.specs.Automata.{Constraint, Edge, Automaton}
+use Rattle.rows.specs.Parts.{relation_text}
 
 -- a test after a word
 abbrev pub test_text : List ℕ → Constraint → List ℕ
 test_text word c =
-    word ++ (codes " x" ++ (decimal c.clock ++ (codes " " ++ (sign_text c.relation ++ (codes " " ++ decimal c.bound)))))
+    word ++ (codes " x" ++ (decimal c.clock ++ (codes " " ++ (relation_text c.relation ++ (codes " " ++ decimal c.bound)))))
 
 abbrev pub more_tests : List Constraint → List ℕ
-more_tests [] = []
-more_tests (c ∷ cs) = test_text (codes ",") c ++ more_tests cs
+more_tests cs = flat_map (test_text (codes ",")) cs
 
 -- tests with commas between them, after a word
 abbrev pub tests_text : List ℕ → List Constraint → List ℕ
@@ -34,8 +29,7 @@ abbrev pub clocks_line : ℕ → List ℕ
 clocks_line n = codes "clocks" ++ (first_clocks n ++ codes "\n")
 
 abbrev pub each_clock : List ℕ → List ℕ
-each_clock [] = []
-each_clock (x ∷ xs) = clock_text x ++ each_clock xs
+each_clock xs = flat_map clock_text xs
 
 abbrev pub resets_text : List ℕ → List ℕ
 resets_text [] = []
@@ -55,8 +49,7 @@ step_line e =
     ++ (tests_text (codes " when") e.guard ++ (resets_text e.resets ++ codes "\n"))
 
 abbrev pub step_lines : List Edge → List ℕ
-step_lines [] = []
-step_lines (e ∷ es) = step_line e ++ step_lines es
+step_lines es = flat_map step_line es
 
 abbrev pub sheet_of : Automaton → List ℕ
 sheet_of a = clocks_line a.clocks ++ (position_lines 0 a.invariants ++ step_lines a.edges)

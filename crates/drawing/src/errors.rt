@@ -1,6 +1,7 @@
 // Why a text is no drawing: where, what was found there, and what was expected.
-ghost use Rattle.std.specs.Prelude.{◌≡◌, Some};
+ghost use Rattle.std.specs.Prelude.{◌≡◌, ◌+◌, ◌≤◌, length, Some, take};
 ghost use Rattle.drawing.specs.Words.{text_of};
+ghost use Rattle.drawing.specs.Places.{newline_count, last_line_len as last_line_len_lem};
 
 use clockworks::rows::Unfit;
 use std::fmt;
@@ -10,6 +11,32 @@ use std::fmt;
 pub struct Place {
     pub line: usize,
     pub column: usize,
+}
+
+// A byte that goes on with a character is none of its own.
+fn last_line_len(text: &[u8]) -> usize
+    ensures characters { result ≡ last_line_len_lem text.now }
+    ensures bound { result ≤ length text.now }
+{
+    text.iter()
+        .rev()
+        .take_while(|byte| **byte != b'\n')
+        .filter(|byte| **byte & 0xc0 != 0x80)
+        .count()
+}
+
+impl Place {
+    // The place past the first `count` bytes of a text, or past all of them.
+    pub fn after(bytes: &[u8], count: usize) -> Place
+        ensures line { result.line ≡ newline_count (take count bytes.now) + 1 }
+        ensures column { result.column ≡ last_line_len_lem (take count bytes.now) + 1 }
+    {
+        let before = &bytes[..count.min(bytes.len())];
+        Place {
+            line: before.iter().filter(|byte| **byte == b'\n').count() + 1,
+            column: last_line_len(before) + 1,
+        }
+    }
 }
 
 #[derive(Debug, Drop)]

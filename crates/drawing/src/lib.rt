@@ -31,27 +31,12 @@ pub struct Drawing {
     pub positions: Vec<String>,
 }
 
-// The place past the first `count` bytes: a byte that goes on with a character takes no column.
-fn place_after(bytes: &[u8], count: usize) -> Place {
-    let mut line = 1usize;
-    let mut column = 1usize;
-    for byte in bytes.iter().take(count) {
-        if *byte == b'\n' {
-            line = line.saturating_add(1);
-            column = 1;
-        } else if *byte & 0xc0 != 0x80 {
-            column = column.saturating_add(1);
-        }
-    }
-    Place { line, column }
-}
-
 // The text, without the mark that some editors put in front of it.
 fn as_text(bytes: &[u8]) -> Result<&str, Refusal> {
     match std::str::from_utf8(bytes) {
         Ok(text) => Ok(text.strip_prefix('\u{feff}').unwrap_or(text)),
         Err(error) => Err(Refusal::Wrong {
-            place: place_after(bytes, error.valid_up_to()),
+            place: Place::after(bytes, error.valid_up_to()),
             found: Found::Bytes,
             expected: Expected::Utf8,
         }),
@@ -129,7 +114,7 @@ pub fn read(heap: Global, bytes: &[u8]) -> Result<Drawing, Refusal>
     ensures { IfOk result (λ d. Draws d.row.items (vec_len d.clocks) (vec_len d.positions)) }
 {
     let text = as_text(bytes)?;
-    let end = place_after(bytes, bytes.len());
+    let end = Place::after(bytes, bytes.len());
     match read_parts(heap, text) {
         Ok((names, clockwork)) => finish(heap, end, names, &clockwork),
         // A row that is too long is no mistake of one part: its place is the end of the text.

@@ -5,7 +5,7 @@ ghost use Rattle.std.specs.List.{HoldsAt};
 use crate::cursor::Cursor;
 use crate::errors::{Expected, Sign};
 use crate::mistakes::Mistake;
-use clockworks::rows::{MOST_CLOCKS, MOST_POSITIONS};
+use rows::limits::{LOCATIONS, MOST_CLOCKS};
 use std::alloc::Global;
 
 #[derive(Drop)]
@@ -92,7 +92,7 @@ fn declare_position(
 ) -> Result<(), Mistake>
     ensures { OnOk result (vec_len positions.new ≤ 256) }
 {
-    if positions.len() >= MOST_POSITIONS {
+    if positions.len() >= LOCATIONS {
         return Err(cursor.mistake(Expected::FewPositions));
     }
     let name = new_name(

@@ -11,8 +11,8 @@ use crate::errors::{Expected, Sign};
 use crate::mistakes::Mistake;
 use crate::names::{Names, find};
 use crate::room::Room;
-use clockworks::parts::{Clockwork, Position, Relation, Step, Test};
-use clockworks::rows::MOST_BOUND;
+use clockworks::parts::{Clock, Clockwork, Position, Relation, Step, Test};
+use rows::limits::MOST_BOUND;
 use std::alloc::Global;
 
 // How many numbers of the row each part takes, without the tests and clocks in it.
@@ -94,7 +94,7 @@ fn numbers_of(comparison: Comparison) -> usize
 
 fn push_test(
     tests: &mut Vec<Test>,
-    clock: u32,
+    clock: Clock,
     comparison: Comparison,
     bound: u32,
 ) -> Result<(), Mistake>
@@ -133,7 +133,7 @@ fn read_test(
     ensures { OnOk result (room.new.left + 3 * vec_len tests.new ≡ room.old.left + 3 * vec_len tests.old) }
 {
     let start = cursor.place();
-    let clock = read_name(clocks, cursor, Expected::KnownClock)?;
+    let clock = Clock(read_name(clocks, cursor, Expected::KnownClock)?);
     let comparison = read_comparison(cursor, owner)?;
     let bound = read_bound(cursor)?;
     room.take(numbers_of(comparison), start)?;

@@ -4,7 +4,7 @@ ghost use Rattle.drawing.specs.declared.mistakes.Mistake.TheVariants.{Row};
 
 use crate::errors::Place;
 use crate::mistakes::Mistake;
-use clockworks::rows::MOST_WORDS;
+use rows::limits::MOST_WORDS;
 
 #[derive(Drop)]
 pub struct Room {

@@ -1,45 +1,66 @@
 // The parts of a clockwork are written as text. Clocks are named x0, x1, .., and positions p0, p1, ..
-ghost use Rattle.std.specs.Prelude.{◌≡◌, ◌++◌, map, IfOk, string_bytes, codes, OnOk};
-ghost use Rattle.clockworks.specs.Meaning.{relation_of, constraint, constraints, invariant_of, edge, automaton, Adds};
-ghost use Rattle.drawing.specs.Sheets.{sign_text, test_text, tests_text, clocks_line, resets_text, position_lines, step_line, step_lines, sheet_of};
+ghost use Rattle.std.specs.Prelude.{◌≡◌, ℕ, List, ◌++◌, map, IfOk, string_bytes, codes, OnOk};
+ghost use Rattle.std.specs.List.{flat_map};
+ghost use Rattle.rows.specs.Parts.{constraint_value};
+ghost use Rattle.clockworks.specs.Meaning.{constraints, invariant_of, edge, automaton, Adds};
+ghost use Rattle.drawing.specs.Sheets.{test_text, tests_text, clock_text, clocks_line, resets_text, position_lines, step_line, sheet_of};
 
-use clockworks::parts::{Clockwork, Position, Relation, Step, Test};
+use clockworks::parts::{Clockwork, Position, Step, Test};
 use std::alloc::{AllocError, Global};
 
-fn sign(relation: Relation) -> &'static str
-    ensures { result.now ≡ sign_text (relation_of relation) }
+// What is written as often as it comes. A test comes so behind the first of its position or step, and a clock behind `reset`.
+trait Part {
+    ghost text: { Self → List ℕ };
+
+    fn write(&self, sheet: &mut String) -> Result<(), AllocError>
+        ensures { OnOk result (Adds (string_bytes sheet.old) (text self.now) (string_bytes sheet.new)) };
+}
+
+fn write_all<P: Part>(sheet: &mut String, parts: &[P]) -> Result<(), AllocError>
+    ensures { OnOk result (Adds (string_bytes sheet.old) (flat_map P.text parts.now) (string_bytes sheet.new)) }
 {
-    match relation {
-        Relation::AtMost => "<=",
-        Relation::Below => "<",
-        Relation::AtLeast => ">=",
-        Relation::Above => ">",
+    for part in parts {
+        part.write(sheet)?;
     }
+    Ok(())
 }
 
 // A test after a word.
 fn write_test(sheet: &mut String, word: &str, test: Test) -> Result<(), AllocError>
-    ensures { OnOk result (Adds (string_bytes sheet.old) (test_text word.now (constraint test)) (string_bytes sheet.new)) }
+    ensures { OnOk result (Adds (string_bytes sheet.old) (test_text word.now (constraint_value test)) (string_bytes sheet.new)) }
 {
-    let clock = test.clock;
-    let sign = sign(test.relation);
+    let clock = test.clock.0;
+    let relation = test.relation;
     let bound = test.bound;
-    write!(sheet, "{word} x{clock} {sign} {bound}")
+    write!(sheet, "{word} x{clock} {relation} {bound}")
+}
+
+impl Part for Test {
+    ghost text = { λ test. test_text (codes ",") (constraint_value test) };
+
+    fn write(&self, sheet: &mut String) -> Result<(), AllocError> {
+        write_test(sheet, ",", *self)
+    }
 }
 
 // Tests with commas between them, after a word.
 fn write_tests(sheet: &mut String, word: &str, tests: &[Test]) -> Result<(), AllocError>
     ensures { OnOk result (Adds (string_bytes sheet.old) (tests_text word.now (constraints tests.now)) (string_bytes sheet.new)) }
 {
-    if tests.is_empty() {
+    let Some((first, rest)) = tests.split_first() else {
         return Ok(());
-    }
-    write_test(sheet, word, tests[0])?;
-    let rest = &tests[1..];
-    for test in rest {
-        write_test(sheet, ",", *test)?;
-    }
+    };
+    write_test(sheet, word, *first)?;
+    write_all(sheet, rest)?;
     Ok(())
+}
+
+impl Part for u32 {
+    ghost text = { clock_text };
+
+    fn write(&self, sheet: &mut String) -> Result<(), AllocError> {
+        write!(sheet, " x{self}")
+    }
 }
 
 fn write_resets(sheet: &mut String, resets: &[u32]) -> Result<(), AllocError>
@@ -49,10 +70,7 @@ fn write_resets(sheet: &mut String, resets: &[u32]) -> Result<(), AllocError>
         return Ok(());
     }
     write!(sheet, " reset")?;
-    for clock in resets {
-        let clock = *clock;
-        write!(sheet, " x{clock}")?;
-    }
+    write_all(sheet, resets)?;
     Ok(())
 }
 
@@ -78,25 +96,18 @@ fn write_positions(sheet: &mut String, positions: &[Position]) -> Result<(), All
     Ok(())
 }
 
-fn write_step(sheet: &mut String, step: &Step) -> Result<(), AllocError>
-    ensures { OnOk result (Adds (string_bytes sheet.old) (step_line (edge step.now)) (string_bytes sheet.new)) }
-{
-    let source = step.source;
-    let target = step.target;
-    write!(sheet, "step p{source} -> p{target}")?;
-    write_tests(sheet, " when", step.tests.as_slice())?;
-    write_resets(sheet, step.resets.as_slice())?;
-    write!(sheet, "\n")?;
-    Ok(())
-}
+impl Part for Step {
+    ghost text = { λ step. step_line (edge step) };
 
-fn write_steps(sheet: &mut String, steps: &[Step]) -> Result<(), AllocError>
-    ensures { OnOk result (Adds (string_bytes sheet.old) (step_lines (map edge steps.now)) (string_bytes sheet.new)) }
-{
-    for step in steps {
-        write_step(sheet, step)?;
+    fn write(&self, sheet: &mut String) -> Result<(), AllocError> {
+        let source = self.source;
+        let target = self.target;
+        write!(sheet, "step p{source} -> p{target}")?;
+        write_tests(sheet, " when", self.tests.as_slice())?;
+        write_resets(sheet, self.resets.as_slice())?;
+        write!(sheet, "\n")?;
+        Ok(())
     }
-    Ok(())
 }
 
 pub fn write_sheet(heap: Global, clockwork: &Clockwork) -> Result<String, AllocError>
@@ -105,6 +116,6 @@ pub fn write_sheet(heap: Global, clockwork: &Clockwork) -> Result<String, AllocE
     let mut sheet = String::new(heap);
     write_clocks(&mut sheet, clockwork.clocks)?;
     write_positions(&mut sheet, clockwork.positions.as_slice())?;
-    write_steps(&mut sheet, clockwork.steps.as_slice())?;
+    write_all(&mut sheet, clockwork.steps.as_slice())?;
     Ok(sheet)
 }

@@ -1,4 +1,5 @@
 pub mod Lists
+pub mod Constraints
 pub mod Numbered
 pub mod Resets
 pub mod Compared

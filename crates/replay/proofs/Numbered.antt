@@ -1,6 +1,6 @@
--- Edges by their numbers, while the ones before them are left out.
-use Rattle.std.proofs.Common.{◌≡◌, ℕ, zero, suc, ◌+◌, ◌≤◌, List, [], ◌∷◌, drop, Some, None, Option, refl, arith}
-use mathlib.Core.Option.{none}
+-- The edge of a number, which the iterator gives once those before it are left out.
+use Rattle.std.proofs.Common.{◌≡◌, ℕ, zero, suc, ◌≤◌, List, [], ◌∷◌, length, Some, None, Option, MatchOption, refl, subst, sym, arith}
+use Rattle.std.specs.Iterator.{Yields, SkipsThenYields}
 use Rattle.automata.specs.Automata as automata
 use Rattle.automata.specs.Automata.{nth}
 use Rattle.rows.specs.declared.edges.Edge.{Edge}
@@ -8,26 +8,43 @@ use Rattle.rows.specs.declared.views.Edges.{Edges}
 use Rattle.rows.specs.Views.{EdgesAre, NextEdge}
 use Rattle.replay.specs.Changes.{EdgeNumber}
 
--- no edge stands there, nor behind
-pub no_edge : (es : List automata.Edge) (i n : ℕ) (t : Edges) → i ≤ n → NextEdge (drop i es) None t → nth es n ≡ none
-no_edge [] i n t h e = refl
-no_edge (x ∷ es) zero n t h e = absurd e
-no_edge (x ∷ es) (suc i) zero t h e = absurd (omega arith)
-no_edge (x ∷ es) (suc i) (suc n) t h e = no_edge es i n t (omega arith) e
+-- one call of `next`
+abbrev Steps : Edges → Option Edge → Edges → Type 0
+Steps s r t = (es : List automata.Edge) → EdgesAre es s → NextEdge es r t
 
-pub other_edges : (es : List automata.Edge) (i : ℕ) (v : Edge) (t : Edges) → NextEdge (drop i es) (Some v) t → EdgesAre (drop (i + 1) es) t
-other_edges [] zero v t e = absurd e
-other_edges [] (suc i) v t e = absurd e
-other_edges (x ∷ es) zero v t e = e.1
-other_edges (x ∷ es) (suc i) v t e =
-    let s : suc i + 1 ≡ suc (i + 1) = omega arith in
-    rw s (other_edges es i v t e)
+-- so many edges are left out, or all where there are fewer
+abbrev Skipped : Option Edge → ℕ → ℕ → Type 0
+Skipped r left_out n = MatchOption r (left_out ≤ n) (λ _. left_out ≡ n)
 
-pub this_edge : (es : List automata.Edge) (i : ℕ) (r : Option Edge) (t : Edges) → NextEdge (drop i es) r t → EdgeNumber (nth es i) r
-this_edge [] zero None t e = refl
-this_edge [] zero (Some v) t e = absurd e
-this_edge [] (suc i) None t e = refl
-this_edge [] (suc i) (Some v) t e = absurd e
-this_edge (x ∷ es) zero None t e = absurd e
-this_edge (x ∷ es) zero (Some v) t e = (x, refl, e.0)
-this_edge (x ∷ es) (suc i) r t e = this_edge es i r t e
+one_fewer : (r : Option Edge) (k n : ℕ) → Skipped r (suc k) (suc n) → Skipped r k n
+one_fewer None k n h = omega arith
+one_fewer (Some v) k n h = omega arith
+
+not_one_fewer : (r : Option Edge) (k : ℕ) → Skipped r (suc k) 0 → ⊥
+not_one_fewer None k h = omega arith
+not_one_fewer (Some v) k h = omega arith
+
+stands_there : (es : List automata.Edge) (n : ℕ) (r : Option Edge) (u : Edges) → NextEdge es r u → Skipped r 0 n → EdgeNumber (nth es n) r
+stands_there [] n None u next h = refl
+stands_there [] n (Some v) u next h = absurd next
+stands_there (e ∷ es) n None u next h = absurd next
+stands_there (e ∷ es) zero (Some v) u next h = (e, refl, next.0)
+stands_there (e ∷ es) (suc n) (Some v) u next h = absurd (omega arith)
+
+after : (es : List automata.Edge) (xs : List Edge) (n : ℕ) (r : Option Edge) (s t u : Edges)
+    → EdgesAre es s
+    → Yields Steps s xs t
+    → Steps t r u
+    → Skipped r (length xs) n
+    → EdgeNumber (nth es n) r
+after es [] n r s t u are same step h = stands_there es n r u (step es (subst (EdgesAre es) same are)) h
+after [] (x ∷ xs) n r s t u are (j, one, more) step h = absurd (one [] are)
+after (e ∷ es) (x ∷ xs) zero r s t u are (j, one, more) step h = absurd (not_one_fewer r (length xs) h)
+after (e ∷ es) (x ∷ xs) (suc n) r s t u are (j, one, more) step h =
+    after es xs n r j t u (one (e ∷ es) are).1 more step (one_fewer r (length xs) n h)
+
+pub edge_number : (es : List automata.Edge) (n : ℕ) (r : Option Edge) (s u : Edges)
+    → EdgesAre es s
+    → SkipsThenYields Steps s n r u
+    → EdgeNumber (nth es n) r
+edge_number es n r s u are (xs, (t, more, step), h) = after es xs n r s t u are more step h

@@ -1,5 +1,5 @@
 -- Fractions in lowest terms.
-use Rattle.std.specs.Prelude.{◌≡◌, ℕ, ◌*◌, ◌≤◌}
+use Rattle.std.specs.Prelude.{◌≡◌, ℕ, ◌*◌, ◌≤◌, cond, List, ◌++◌, codes, decimal, ◌==◌}
 
 -- k divides x
 abbrev pub Divides : ℕ → ℕ → Type 0
@@ -16,3 +16,7 @@ pub record Lowest (n d p q : ℕ) : Type 0 where
   pub none : d ≡ 0 → (p ≡ n) × (q ≡ d)
   pub positive : 1 ≤ d → 1 ≤ q
   pub coprime : 1 ≤ d → (k : ℕ) → Divides k p → Divides k q → k ≡ 1
+
+-- a whole number stands without its 1
+abbrev pub ratio_text : ℕ → ℕ → List ℕ
+ratio_text p q = cond (q == 1) (decimal p) (decimal p ++ (codes "/" ++ decimal q))

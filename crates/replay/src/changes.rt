@@ -6,17 +6,18 @@ ghost use Rattle.regions.specs.Moves.{among};
 ghost use Rattle.rows.specs.Views.{Views};
 ghost use Rattle.replay.specs.Changes.{Waited, NoRoomFor, EdgeNumber};
 
-use crate::moments::{MOST_CLOCKS, Moment};
+use crate::moments::Moment;
 use rows::edges::Edge;
+use rows::limits::CLOCKS;
 use rows::views::Automaton;
 
 // The moment after a wait; none where a sum is too large.
 pub(crate) fn waited(moment: &Moment, delay: u64) -> Option<Moment>
     ensures { MatchOption result (NoRoomFor delay moment.now) (λ after. Waited delay moment.now after) }
 {
-    let mut clocks = [0; MOST_CLOCKS];
-    for clock in 0..MOST_CLOCKS {
-        clocks[clock] = moment.clocks[clock].checked_add(delay)?;
+    let mut clocks = moment.clocks;
+    for clock in clocks.iter_mut() {
+        *clock = clock.checked_add(delay)?;
     }
     let time = moment.time.checked_add(delay)?;
     Some(Moment {
@@ -27,13 +28,13 @@ pub(crate) fn waited(moment: &Moment, delay: u64) -> Option<Moment>
 }
 
 // The values of the clocks after resets.
-pub(crate) fn with_resets(clocks: [u64; MOST_CLOCKS], resets: &[u32]) -> [u64; MOST_CLOCKS]
+pub fn with_resets(clocks: [u64; CLOCKS], resets: &[u32]) -> [u64; CLOCKS]
     ensures { (i : ℕ) → i < 8 → slice_index result i ≡ (if among i resets.now then 0 else slice_index clocks i) }
 {
     let mut after = clocks;
     for clock in resets {
         let place = *clock as usize;
-        if place < MOST_CLOCKS {
+        if place < CLOCKS {
             after[place] = 0;
         }
     }
@@ -44,9 +45,5 @@ pub(crate) fn with_resets(clocks: [u64; MOST_CLOCKS], resets: &[u32]) -> [u64; M
 pub(crate) fn numbered_edge<'a>(automaton: &Automaton<'a>, number: u32) -> Option<Edge<'a>>
     ensures { (a : automata.Automaton) → Views automaton.now a → EdgeNumber (nth a.edges number) result }
 {
-    let mut edges = automaton.edges();
-    for _ in 0..number {
-        edges.next()?;
-    }
-    edges.next()
+    automaton.edges().nth(number as usize)
 }

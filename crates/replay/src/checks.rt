@@ -1,63 +1,53 @@
 // Whether constraints hold of clocks whose values are numbers of d-ths.
-ghost use Rattle.std.specs.Prelude.{◌≡◌, List};
+ghost use Rattle.std.specs.Prelude.{◌≡◌, slice_index};
 ghost use Rattle.automata.specs.Automata as automata;
 ghost use Rattle.automata.specs.Automata.{invariant};
-ghost use Rattle.automata.specs.Rows.{write_constraints};
 ghost use Rattle.rows.specs.Parts.{relation_value};
+ghost use Rattle.rows.specs.Values.{conjunction_value};
 ghost use Rattle.rows.specs.Views.{Views};
 ghost use Rattle.replay.specs.Checks.{Decides, MeetsParts, HoldsParts};
-ghost use Rattle.replay.specs.Meaning.{clock_of};
 
-use crate::moments::Moment;
 use rows::constraints::{Clock, Conjunction, Relation};
+use rows::edges::Location;
+use rows::limits::CLOCKS;
 use rows::views::Automaton;
 
 // Whether `value` d-ths stand to the bound as the relation says.
 fn meets(relation: Relation, value: u64, bound: u32, denominator: u64) -> bool
     ensures { Decides result (MeetsParts denominator (relation_value relation) value bound) }
 {
-    let parts = value as u128;
     let limit = bound as u128 * denominator as u128;
-    match relation {
-        Relation::AtMost => parts <= limit,
-        Relation::Below => parts < limit,
-        Relation::AtLeast => parts >= limit,
-        Relation::Above => parts > limit,
-    }
+    relation.holds(value as u128, limit)
 }
 
 // The value of a clock; a clock that there is none of stays at 0.
-fn value_of(moment: &Moment, clock: Clock) -> u64
-    ensures { result ≡ clock_of moment.now clock.0 }
+fn value_of(clocks: &[u64; CLOCKS], clock: Clock) -> u64
+    ensures { result ≡ slice_index clocks.now clock.0 }
 {
-    match moment.clocks.get(clock.0 as usize) {
-        Some(value) => *value,
-        None => 0,
-    }
+    clocks.get(clock.0 as usize).copied().unwrap_or(0)
 }
 
-// Whether all constraints hold.
-pub(crate) fn holds(conjunction: &Conjunction, denominator: u64, moment: &Moment) -> bool
-    ensures { (cs : List automata.Constraint) → conjunction.now.words.now ≡ write_constraints cs → Decides result (HoldsParts denominator (clock_of moment.now) cs) }
+// Whether all constraints hold of the clocks.
+pub fn holds(conjunction: &Conjunction, denominator: u64, clocks: &[u64; CLOCKS]) -> bool
+    ensures { Decides result (HoldsParts denominator (slice_index clocks.now) (conjunction_value conjunction.now)) }
 {
-    for place in 0..conjunction.len() {
-        let Some(constraint) = conjunction.get(place) else {
-            return false;
-        };
-        let value = value_of(moment, constraint.clock);
-        if !meets(constraint.relation, value, constraint.bound, denominator) {
-            return false;
-        }
-    }
-    true
+    conjunction.iter().all(|constraint| {
+        let value = value_of(clocks, constraint.clock);
+        meets(constraint.relation, value, constraint.bound, denominator)
+    })
 }
 
 // Whether the invariant of the location holds; where there is no such location there is none to hold.
-pub(crate) fn allowed(automaton: &Automaton, denominator: u64, moment: &Moment) -> bool
-    ensures { (a : automata.Automaton) → Views automaton.now a → Decides result (HoldsParts denominator (clock_of moment.now) (invariant a moment.now.location.0)) }
+pub fn allowed(
+    automaton: &Automaton,
+    location: Location,
+    denominator: u64,
+    clocks: &[u64; CLOCKS],
+) -> bool
+    ensures { (a : automata.Automaton) → Views automaton.now a → Decides result (HoldsParts denominator (slice_index clocks.now) (invariant a location.0)) }
 {
-    match automaton.invariant(moment.location) {
-        Some(conjunction) => holds(&conjunction, denominator, moment),
+    match automaton.invariant(location) {
+        Some(conjunction) => holds(&conjunction, denominator, clocks),
         None => true,
     }
 }

@@ -2,8 +2,8 @@
 // denominator, and accepted only if it is a run.
 #![tactic(auto)]
 
-mod changes;
-mod checks;
+pub mod changes;
+pub mod checks;
 pub mod fractions;
 pub mod moments;
 pub mod runs;

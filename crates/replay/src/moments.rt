@@ -1,8 +1,6 @@
 // What a run is told in: the times of a run are over one denominator d, so each is a number of d-ths.
 use rows::edges::Location;
-
-// An automaton has at most so many clocks.
-pub const MOST_CLOCKS: usize = 8;
+use rows::limits::CLOCKS;
 
 #[derive(Clone, Copy)]
 pub enum Move {
@@ -16,7 +14,7 @@ pub enum Move {
 #[derive(Clone, Copy)]
 pub struct Moment {
     pub location: Location,
-    pub clocks: [u64; MOST_CLOCKS],
+    pub clocks: [u64; CLOCKS],
     pub time: u64,
 }
 

@@ -1,14 +1,19 @@
 // Runs, followed move by move.
-ghost use Rattle.std.specs.Prelude.{◌≤◌};
+ghost use Rattle.std.specs.Prelude.{◌≡◌, ◌≤◌, MatchResult};
 ghost use Rattle.automata.specs.Automata as automata;
+ghost use Rattle.automata.specs.Automata.{invariant};
 ghost use Rattle.rows.specs.Views.{Views};
+ghost use Rattle.replay.specs.Checks.{Decides, HoldsParts};
+ghost use Rattle.replay.specs.Meaning.{clock_of};
 ghost use Rattle.replay.specs.declared.moments.Move.TheVariants.{Wait, Step};
+ghost use Rattle.replay.specs.declared.moments.Fault.TheVariants.{NoDenominator};
 ghost use Rattle.replay.specs.Outcomes.{Begins, Advances, Replays};
 
 use crate::changes::{numbered_edge, waited, with_resets};
 use crate::checks::{allowed, holds};
-use crate::moments::{Fault, MOST_CLOCKS, Moment, Move};
+use crate::moments::{Fault, Moment, Move};
 use rows::edges::Location;
+use rows::limits::CLOCKS;
 use rows::views::Automaton;
 
 // The start of every run: location 0, all clocks 0, at time 0.
@@ -17,63 +22,90 @@ pub fn begin(automaton: &Automaton) -> Result<Moment, Fault>
 {
     let start = Moment {
         location: Location(0),
-        clocks: [0; MOST_CLOCKS],
+        clocks: [0; CLOCKS],
         time: 0,
     };
     // 0 is 0 over every denominator
-    if !allowed(automaton, 1, &start) {
+    if !allowed(automaton, start.location, 1, &start.clocks) {
         return Err(Fault::NotAllowedAtStart);
     }
     Ok(start)
 }
 
-// One wait.
-fn wait(
-    automaton: &Automaton,
+// An automaton, and the denominator of the times of its runs.
+#[derive(Clone, Copy)]
+struct Player<'a> {
+    automaton: Automaton<'a>,
     denominator: u64,
-    moment: &Moment,
-    delay: u64,
-) -> Result<Moment, Fault>
-    requires { 1 ≤ denominator }
-    ensures { (a : automata.Automaton) → Views automaton.now a → Advances a denominator moment.now (Wait delay) result }
-{
-    let Some(later) = waited(moment, delay) else {
-        return Err(Fault::NoRoom);
-    };
-    if !allowed(automaton, denominator, &later) {
-        return Err(Fault::InvariantFails);
-    }
-    Ok(later)
+    ghost positive: { 1 ≤ denominator },
 }
 
-// One edge.
-fn step(
-    automaton: &Automaton,
-    denominator: u64,
-    moment: &Moment,
-    number: u32,
-) -> Result<Moment, Fault>
-    requires { 1 ≤ denominator }
-    ensures { (a : automata.Automaton) → Views automaton.now a → Advances a denominator moment.now (Step number) result }
-{
-    let Some(edge) = numbered_edge(automaton, number) else {
-        return Err(Fault::NoSuchStep);
-    };
-    if edge.source.0 != moment.location.0 {
-        return Err(Fault::OtherPosition);
+impl<'a> Player<'a> {
+    fn new(automaton: &Automaton<'a>, denominator: u64) -> Result<Self, Fault>
+        ensures { MatchResult result (λ player. (player.automaton ≡ automaton.now) × (player.denominator ≡ denominator)) (λ fault. (fault ≡ NoDenominator) × (denominator ≡ 0)) }
+    {
+        if denominator == 0 {
+            return Err(Fault::NoDenominator);
+        }
+        Ok(Player {
+            automaton: *automaton,
+            denominator,
+        })
     }
-    if !holds(&edge.guard, denominator, moment) {
-        return Err(Fault::GuardFails);
+
+    // Whether the invariant of the moment's location holds.
+    fn is_allowed(&self, moment: &Moment) -> bool
+        ensures { (a : automata.Automaton) → Views self.now.automaton a → Decides result (HoldsParts self.now.denominator (clock_of moment.now) (invariant a moment.now.location.0)) }
+    {
+        allowed(
+            &self.automaton,
+            moment.location,
+            self.denominator,
+            &moment.clocks,
+        )
     }
-    let after = Moment {
-        location: edge.target,
-        clocks: with_resets(moment.clocks, edge.resets),
-        time: moment.time,
-    };
-    if !allowed(automaton, denominator, &after) {
-        return Err(Fault::InvariantFails);
+
+    // One wait.
+    fn wait(&self, moment: &Moment, delay: u64) -> Result<Moment, Fault>
+        ensures { (a : automata.Automaton) → Views self.now.automaton a → Advances a self.now.denominator moment.now (Wait delay) result }
+    {
+        let later = waited(moment, delay).ok_or(Fault::NoRoom)?;
+        if !self.is_allowed(&later) {
+            return Err(Fault::InvariantFails);
+        }
+        Ok(later)
     }
-    Ok(after)
+
+    // One edge.
+    fn step(&self, moment: &Moment, number: u32) -> Result<Moment, Fault>
+        ensures { (a : automata.Automaton) → Views self.now.automaton a → Advances a self.now.denominator moment.now (Step number) result }
+    {
+        let edge = numbered_edge(&self.automaton, number).ok_or(Fault::NoSuchStep)?;
+        if edge.source != moment.location {
+            return Err(Fault::OtherPosition);
+        }
+        if !holds(&edge.guard, self.denominator, &moment.clocks) {
+            return Err(Fault::GuardFails);
+        }
+        let after = Moment {
+            location: edge.target,
+            clocks: with_resets(moment.clocks, edge.resets),
+            time: moment.time,
+        };
+        if !self.is_allowed(&after) {
+            return Err(Fault::InvariantFails);
+        }
+        Ok(after)
+    }
+
+    fn advance(&self, moment: &Moment, by: Move) -> Result<Moment, Fault>
+        ensures { (a : automata.Automaton) → Views self.now.automaton a → Advances a self.now.denominator moment.now by result }
+    {
+        match by {
+            Move::Wait(delay) => self.wait(moment, delay),
+            Move::Step(number) => self.step(moment, number),
+        }
+    }
 }
 
 // The moment after one move.
@@ -85,13 +117,7 @@ pub fn advance(
 ) -> Result<Moment, Fault>
     ensures { (a : automata.Automaton) → Views automaton.now a → Advances a denominator moment.now by result }
 {
-    if denominator == 0 {
-        return Err(Fault::NoDenominator);
-    }
-    match by {
-        Move::Wait(delay) => wait(automaton, denominator, moment, delay),
-        Move::Step(number) => step(automaton, denominator, moment, number),
-    }
+    Player::new(automaton, denominator)?.advance(moment, by)
 }
 
 // Goes through all moves, from the start. What is accepted is a run to that location at that time; what is refused is none,
@@ -99,12 +125,10 @@ pub fn advance(
 pub fn replay(automaton: &Automaton, denominator: u64, moves: &[Move]) -> Result<Moment, Fault>
     ensures { (a : automata.Automaton) → Views automaton.now a → Replays a denominator moves.now result }
 {
-    if denominator == 0 {
-        return Err(Fault::NoDenominator);
-    }
+    let player = Player::new(automaton, denominator)?;
     let mut moment = begin(automaton)?;
     for next in moves {
-        moment = advance(automaton, denominator, &moment, *next)?;
+        moment = player.advance(&moment, *next)?;
     }
     Ok(moment)
 }

@@ -1,9 +1,11 @@
 // An answer held against what was found on the grid.
 ghost use Rattle.std.specs.Prelude.{◌≡◌};
-ghost use Rattle.sixtieths.specs.Judging.{Compared, Judged, JudgedAt, kind_is};
+ghost use Rattle.sixtieths.specs.Judging.{Compared, Judged, kind_is};
 
 use clocks::answers::Asked;
 use grids::grid::PARTS;
+use std::cmp::Ordering;
+use std::fmt;
 
 // The kinds of answers. Whether there is a way in the drawing parts those that say never.
 #[derive(Clone, Copy)]
@@ -16,8 +18,33 @@ pub enum Kind {
     NoAnswer,
 }
 
+impl Kind {
+    // In the order in which they are declared.
+    pub const ALL: [Kind; 6] = [
+        Kind::AtStart,
+        Kind::AtLater,
+        Kind::After,
+        Kind::NeverOnWay,
+        Kind::NeverOffWay,
+        Kind::NoAnswer,
+    ];
+}
+
+impl fmt::Display for Kind {
+    fn fmt<W: fmt::Write>(&self, f: &mut fmt::Formatter<W>) -> fmt::Result {
+        f.pad(match self {
+            Kind::AtStart => "at 0",
+            Kind::AtLater => "at a time above 0",
+            Kind::After => "after a time",
+            Kind::NeverOnWay => "never, with a way in the drawing",
+            Kind::NeverOffWay => "never, without one",
+            Kind::NoAnswer => "no answer",
+        })
+    }
+}
+
 // What the grid says of an answer.
-#[derive(Clone, Copy)]
+#[derive(Clone, Copy, PartialEq, Eq)]
 pub enum Finding {
     // the first time on the grid is the one that was told, or the first one behind it
     Exact,
@@ -33,21 +60,11 @@ pub fn kind_of(asked: Asked, has_way: bool) -> Kind
     ensures { result ≡ kind_is asked has_way }
 {
     match asked {
-        Asked::At(time) => {
-            if time == 0 {
-                Kind::AtStart
-            } else {
-                Kind::AtLater
-            }
-        }
+        Asked::At(0) => Kind::AtStart,
+        Asked::At(_) => Kind::AtLater,
         Asked::After(_) => Kind::After,
-        Asked::Never => {
-            if has_way {
-                Kind::NeverOnWay
-            } else {
-                Kind::NeverOffWay
-            }
-        }
+        Asked::Never if has_way => Kind::NeverOnWay,
+        Asked::Never => Kind::NeverOffWay,
         _ => Kind::NoAnswer,
     }
 }
@@ -56,23 +73,10 @@ pub fn kind_of(asked: Asked, has_way: bool) -> Kind
 fn compare(earliest: u128, found: u64) -> Finding
     ensures { Compared earliest found result }
 {
-    let found = found as u128;
-    if found < earliest {
-        return Finding::Contradiction;
-    }
-    if found == earliest {
-        return Finding::Exact;
-    }
-    Finding::Later
-}
-
-fn judge_found(asked: Asked, found: u64) -> Finding
-    ensures { JudgedAt asked found result }
-{
-    match asked {
-        Asked::At(time) => compare(time as u128 * PARTS as u128, found),
-        Asked::After(time) => compare(time as u128 * PARTS as u128 + 1, found),
-        _ => Finding::Contradiction,
+    match u128::from(found).cmp(&earliest) {
+        Ordering::Less => Finding::Contradiction,
+        Ordering::Equal => Finding::Exact,
+        Ordering::Greater => Finding::Later,
     }
 }
 
@@ -80,12 +84,13 @@ fn judge_found(asked: Asked, found: u64) -> Finding
 pub fn judge(asked: Asked, found: Option<u64>) -> Finding
     ensures { Judged asked found result }
 {
-    let Some(time) = found else {
-        return match asked {
-            Asked::At(_) | Asked::After(_) => Finding::Missing,
-            Asked::Never => Finding::Exact,
-            _ => Finding::Contradiction,
-        };
-    };
-    judge_found(asked, time)
+    match (asked, found) {
+        (Asked::At(time), Some(found)) => compare(u128::from(time) * u128::from(PARTS), found),
+        (Asked::After(time), Some(found)) => {
+            compare(u128::from(time) * u128::from(PARTS) + 1, found)
+        }
+        (Asked::At(_) | Asked::After(_), None) => Finding::Missing,
+        (Asked::Never, None) => Finding::Exact,
+        _ => Finding::Contradiction,
+    }
 }

@@ -1,11 +1,12 @@
 // Counts of what was compared.
-ghost use Rattle.std.specs.Prelude.{◌≡◌};
-ghost use Rattle.sixtieths.specs.Counting.{one_added, tallied};
+ghost use Rattle.std.specs.Prelude.{◌≡◌, slice_set, slice_index_or};
+ghost use Rattle.sixtieths.specs.Counting.{one_added, tallied, place_of};
+ghost use Rattle.sixtieths.specs.declared.counts.Tally.{Tally};
 
 use crate::comparison::{Finding, Kind};
 
 // The positions with answers of one kind, by what the grid says of them.
-#[derive(Clone, Copy)]
+#[derive(Clone, Copy, Default)]
 pub struct Tally {
     pub exact: u32,
     pub later: u32,
@@ -13,39 +14,26 @@ pub struct Tally {
     pub wrong: u32,
 }
 
-#[derive(Clone, Copy)]
+#[derive(Clone, Copy, Default)]
 pub struct Counts {
-    pub at_start: Tally,
-    pub at_later: Tally,
-    pub after: Tally,
-    pub never_on_way: Tally,
-    pub never_off_way: Tally,
-    pub no_answer: Tally,
+    // a tally for each kind
+    tallies: [Tally; Kind::ALL.len()],
     // runs that were gone through again
     pub followed: u32,
     pub differences: u32,
 }
 
-const NOTHING: Tally = Tally {
-    exact: 0,
-    later: 0,
-    missing: 0,
-    wrong: 0,
-};
-
 impl Tally {
     // One more position.
-    fn with(self, finding: Finding) -> Self
-        ensures { result ≡ tallied self finding }
+    fn add(&mut self, finding: Finding)
+        ensures { self.new ≡ tallied self.old finding }
     {
-        let mut more = self;
         match finding {
-            Finding::Exact => more.exact = more.exact.saturating_add(1),
-            Finding::Later => more.later = more.later.saturating_add(1),
-            Finding::Missing => more.missing = more.missing.saturating_add(1),
-            Finding::Contradiction => more.wrong = more.wrong.saturating_add(1),
+            Finding::Exact => self.exact = self.exact.saturating_add(1),
+            Finding::Later => self.later = self.later.saturating_add(1),
+            Finding::Missing => self.missing = self.missing.saturating_add(1),
+            Finding::Contradiction => self.wrong = self.wrong.saturating_add(1),
         }
-        more
     }
 
     pub fn positions(&self) -> u32 {
@@ -57,29 +45,19 @@ impl Tally {
 }
 
 impl Counts {
-    pub fn new() -> Self {
-        Counts {
-            at_start: NOTHING,
-            at_later: NOTHING,
-            after: NOTHING,
-            never_on_way: NOTHING,
-            never_off_way: NOTHING,
-            no_answer: NOTHING,
-            followed: 0,
-            differences: 0,
-        }
+    // The tally of a kind.
+    pub fn tally(&self, of: Kind) -> Tally
+        ensures { (other : Tally) → result ≡ slice_index_or self.now.tallies (place_of of) other }
+    {
+        self.tallies[of as usize]
     }
 
     // One more position.
-    pub fn note(&mut self, kind: Kind, finding: Finding) {
-        match kind {
-            Kind::AtStart => self.at_start = self.at_start.with(finding),
-            Kind::AtLater => self.at_later = self.at_later.with(finding),
-            Kind::After => self.after = self.after.with(finding),
-            Kind::NeverOnWay => self.never_on_way = self.never_on_way.with(finding),
-            Kind::NeverOffWay => self.never_off_way = self.never_off_way.with(finding),
-            Kind::NoAnswer => self.no_answer = self.no_answer.with(finding),
-        }
+    pub fn note(&mut self, kind: Kind, finding: Finding)
+        ensures tallies { (other : Tally) → self.new.tallies ≡ slice_set self.old.tallies (place_of kind) (tallied (slice_index_or self.old.tallies (place_of kind) other) finding) }
+        ensures rest { (self.new.followed ≡ self.old.followed) × (self.new.differences ≡ self.old.differences) }
+    {
+        self.tallies[kind as usize].add(finding);
     }
 
     pub fn note_followed(&mut self)

@@ -1,10 +1,10 @@
 // The worked examples: a line for each position, with both answers.
 use crate::counts::Counts;
-use crate::opinions::{MOST_STATES, Opinion, opinions, states_held};
-use crate::{problems, report};
+use crate::grid_search::MOST_STATES;
+use crate::opinions::Opinion;
+use crate::problems::{fail, opinions_on};
+use crate::report;
 use drawing::Drawing;
-use rows::reader;
-use rows::views::Automaton;
 use std::{fs, io};
 
 const FILES: [&str; 11] = [
@@ -23,13 +23,13 @@ const FILES: [&str; 11] = [
 
 fn read_drawing(rt: &HostRuntime, file: &str) -> io::Result<Drawing> {
     let bytes = fs::read(rt, file)?;
-    match drawing::read(rt.alloc(), bytes.as_slice()) {
-        Ok(drawing) => Ok(drawing),
-        Err(refusal) => {
-            eprintln!(rt; "{file}:{refusal}")?;
-            Err(io::Error::from(io::ErrorKind::InvalidData))
-        }
-    }
+    drawing::read(rt.alloc(), bytes.as_slice()).or_else(|refusal| {
+        fail(
+            rt,
+            io::ErrorKind::InvalidData,
+            format_args!("{file}:{refusal}"),
+        )
+    })
 }
 
 fn print_all(
@@ -55,19 +55,17 @@ fn compare_drawing(
     file: &str,
 ) -> io::Result<()> {
     let drawing = read_drawing(rt, file)?;
-    let automaton = problems::automaton_of(rt, drawing.row.as_slice())?;
-    let Some(states) = states_held(&automaton) else {
+    let Some(all) = opinions_on(rt, drawing.row.as_slice(), work)? else {
         return println!(rt;
             "{file}: skipped, since it has more than {MOST_STATES} states in sixtieths"
         );
     };
-    let all = problems::or_told(rt, opinions(rt.alloc(), &automaton, states, work))?;
     print_all(rt, counts, file, &drawing, all.as_slice())
 }
 
 // Compares all examples, and prints what comes of it.
 pub fn compare_examples(rt: &HostRuntime, work: &mut [u32]) -> io::Result<Counts> {
-    let mut counts = Counts::new();
+    let mut counts = Counts::default();
     for file in FILES {
         compare_drawing(rt, &mut counts, work, file)?;
     }

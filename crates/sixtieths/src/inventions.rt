@@ -12,90 +12,90 @@ const UPPER_RELATIONS: u32 = 2;
 
 const RELATIONS: u32 = 4;
 
-fn push_constraint(
-    row: &mut Vec<u32>,
-    numbers: &mut Generator,
-    relations: u32,
-) -> Result<(), AllocFailed<u32>> {
-    row.push(numbers.below(CLOCKS))?;
-    row.push(numbers.below(relations))?;
-    row.push(numbers.below(BOUNDS))
+// A row in the making.
+#[derive(Drop)]
+struct Draft<'a> {
+    row: Vec<u32>,
+    numbers: &'a mut Generator,
 }
 
-fn push_conjunction(
-    row: &mut Vec<u32>,
-    numbers: &mut Generator,
-    count: u32,
-    relations: u32,
-) -> Result<(), AllocFailed<u32>> {
-    row.push(count)?;
-    for _ in 0..count {
-        push_constraint(row, numbers, relations)?;
+impl<'a> Draft<'a> {
+    fn push_constraint(&mut self, relations: u32) -> Result<(), AllocFailed<u32>> {
+        self.row.push(self.numbers.below(CLOCKS))?;
+        self.row.push(self.numbers.below(relations))?;
+        self.row.push(self.numbers.below(BOUNDS))
     }
-    Ok(())
-}
 
-// No clock is reset, or one, or both.
-fn push_resets(row: &mut Vec<u32>, numbers: &mut Generator) -> Result<(), AllocFailed<u32>> {
-    match numbers.below(4) {
-        0 => row.push(0),
-        1 => {
-            row.push(2)?;
-            row.push(0)?;
-            row.push(1)
+    fn push_conjunction(&mut self, count: u32, relations: u32) -> Result<(), AllocFailed<u32>> {
+        self.row.push(count)?;
+        for _ in 0..count {
+            self.push_constraint(relations)?;
         }
-        _ => {
-            row.push(1)?;
-            row.push(numbers.below(CLOCKS))
+        Ok(())
+    }
+
+    // No clock is reset, or one, or both.
+    fn push_resets(&mut self) -> Result<(), AllocFailed<u32>> {
+        match self.numbers.below(4) {
+            0 => self.row.push(0),
+            1 => {
+                self.row.push(2)?;
+                self.row.push(0)?;
+                self.row.push(1)
+            }
+            _ => {
+                self.row.push(1)?;
+                self.row.push(self.numbers.below(CLOCKS))
+            }
         }
     }
-}
 
-// An edge between two locations, with one or two constraints.
-fn push_edge(
-    row: &mut Vec<u32>,
-    numbers: &mut Generator,
-    source: u32,
-    target: u32,
-) -> Result<(), AllocFailed<u32>> {
-    row.push(source)?;
-    row.push(target)?;
-    let count = 1 + numbers.below(2);
-    push_conjunction(row, numbers, count, RELATIONS)?;
-    push_resets(row, numbers)
-}
-
-// To each location but the first leads an edge from an earlier one, so that most have a way in the drawing; some from itself.
-fn push_ways(
-    row: &mut Vec<u32>,
-    numbers: &mut Generator,
-    locations: u32,
-) -> Result<(), AllocFailed<u32>> {
-    for target in 1..locations {
-        let source = match numbers.below(6) {
-            0 => target,
-            _ => numbers.below(target),
-        };
-        push_edge(row, numbers, source, target)?;
+    // An edge between two locations, with one or two constraints.
+    fn push_edge(&mut self, source: u32, target: u32) -> Result<(), AllocFailed<u32>> {
+        self.row.push(source)?;
+        self.row.push(target)?;
+        let count = 1 + self.numbers.below(2);
+        self.push_conjunction(count, RELATIONS)?;
+        self.push_resets()
     }
-    Ok(())
+
+    // To each location but the first leads an edge from an earlier one, so that most have a way in the drawing; some from itself.
+    fn push_ways(&mut self, locations: u32) -> Result<(), AllocFailed<u32>> {
+        for target in 1..locations {
+            let source = match self.numbers.below(6) {
+                0 => target,
+                _ => self.numbers.below(target),
+            };
+            self.push_edge(source, target)?;
+        }
+        Ok(())
+    }
+
+    // With 3 to 5 locations and 4 to 8 edges.
+    fn push_all(&mut self) -> Result<(), AllocFailed<u32>> {
+        let locations = 3 + self.numbers.below(3);
+        self.row.push(CLOCKS)?;
+        self.row.push(locations)?;
+        for _ in 0..locations {
+            let count = u32::from(self.numbers.below(3) == 0);
+            self.push_conjunction(count, UPPER_RELATIONS)?;
+        }
+        self.push_ways(locations)?;
+        for _ in 0..2 + self.numbers.below(3) {
+            let source = self.numbers.below(locations);
+            let target = self.numbers.below(locations);
+            self.push_edge(source, target)?;
+        }
+        Ok(())
+    }
 }
 
-// The row of an automaton with 3 to 5 locations and 4 to 8 edges.
+// The row of an automaton.
 pub fn invent(heap: Global, numbers: &mut Generator) -> Result<Vec<u32>, AllocFailed<u32>> {
-    let mut row = Vec::new(heap);
-    let locations = 3 + numbers.below(3);
-    row.push(CLOCKS)?;
-    row.push(locations)?;
-    for _ in 0..locations {
-        let count = if numbers.below(3) == 0 { 1 } else { 0 };
-        push_conjunction(&mut row, numbers, count, UPPER_RELATIONS)?;
-    }
-    push_ways(&mut row, numbers, locations)?;
-    for _ in 0..2 + numbers.below(3) {
-        let source = numbers.below(locations);
-        let target = numbers.below(locations);
-        push_edge(&mut row, numbers, source, target)?;
-    }
-    Ok(row)
+    let mut draft = Draft {
+        row: Vec::new(heap),
+        numbers,
+    };
+    draft.push_all()?;
+    Ok(draft.row)
 }

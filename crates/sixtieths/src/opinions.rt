@@ -1,18 +1,13 @@
 // The second opinion on an automaton: for each position the answer, and what the grid says of it.
 use crate::comparison::{Finding, Kind, judge, kind_of};
-use crate::grid_search::search;
-use crate::trails::{Followed, follow, moves_to};
+use crate::grid_search::{Space, search};
+use crate::trails::{Astray, follow, moves_to};
 use crate::visits::{Arrival, Fault, Visits};
 use crate::ways::find_ways;
 use clocks::answers::{Asked, look_up};
-use grids::states::count;
-use grids::tops::grid_of;
 use rows::views::Automaton;
 use search::explores::explore;
 use std::alloc::Global;
-
-// An automaton with more states on the grid is not gone through.
-pub const MOST_STATES: usize = 4_000_000;
 
 // As many kinds of states are allowed, which is more than any automaton has that is asked about here.
 pub const KINDS: u32 = 16_384;
@@ -25,88 +20,66 @@ const WORDS_FOR_A_WORD: usize = 8;
 const WORDS_FOR_A_KIND: usize = 256;
 
 // Words for rows of up to 16,384 words.
-pub const WORK: usize = WORDS + WORDS_FOR_A_WORD * 16_384 + WORDS_FOR_A_KIND * 16_384;
+pub const WORK: usize = WORDS + WORDS_FOR_A_WORD * 16_384 + WORDS_FOR_A_KIND * KINDS as usize;
+
+// The first time on the grid, in sixtieths, and what came of the run to it.
+#[derive(Clone, Copy)]
+pub struct First {
+    pub time: u64,
+    pub followed: Result<(), Astray>,
+}
 
 #[derive(Clone, Copy)]
 pub struct Opinion {
     pub asked: Asked,
-    // the first time on the grid, in sixtieths
-    pub found: Option<u64>,
     pub kind: Kind,
     pub finding: Finding,
-    // what came of the run to it
-    pub followed: Option<Followed>,
+    pub first: Option<First>,
 }
 
 impl Opinion {
-    // Whether the answer and the grid contradict each other, or the grid's run is none.
-    pub fn differs(&self) -> bool {
-        match (self.finding, self.followed) {
-            (Finding::Contradiction, _) => true,
-            (_, None | Some(Followed::Accepted)) => false,
-            _ => true,
+    fn new(asked: Asked, has_way: bool, first: Option<First>) -> Self {
+        Opinion {
+            asked,
+            kind: kind_of(asked, has_way),
+            finding: judge(asked, first.map(|first| first.time)),
+            first,
         }
     }
-}
 
-// How many states there are on the grid, if they can be held.
-pub fn states_held(automaton: &Automaton) -> Option<usize> {
-    let states = count(&grid_of(automaton))?;
-    if states > MOST_STATES {
-        return None;
+    // Whether the answer and the grid contradict each other, or the grid's run is none.
+    pub fn differs(&self) -> bool {
+        self.finding == Finding::Contradiction
+            || self.first.is_some_and(|first| first.followed.is_err())
     }
-    Some(states)
 }
 
-fn follow_to(
+// The first time at a location, where there is one.
+fn first_at(
     heap: Global,
     automaton: &Automaton,
     visits: &Visits,
     location: u32,
-    arrival: Arrival,
-) -> Result<Followed, Fault> {
-    let moves = moves_to(heap, visits, arrival.state)?;
-    Ok(follow(automaton, moves.as_slice(), location, arrival.time))
-}
-
-fn opinion_on(
-    heap: Global,
-    automaton: &Automaton,
-    visits: &Visits,
-    location: u32,
-    asked: Asked,
-    has_way: bool,
-) -> Result<Opinion, Fault> {
-    let mut found = None;
-    let mut followed = None;
-    if let Some(arrival) = visits.first(location) {
-        found = Some(arrival.time);
-        followed = Some(follow_to(heap, automaton, visits, location, arrival)?);
-    }
-    Ok(Opinion {
-        asked,
-        found,
-        kind: kind_of(asked, has_way),
-        finding: judge(asked, found),
-        followed,
-    })
+) -> Result<Option<First>, Fault> {
+    let Some(Arrival { state, time }) = visits.first(location) else {
+        return Ok(None);
+    };
+    let moves = moves_to(heap, visits, state)?;
+    let followed = follow(automaton, moves.as_slice(), location, time);
+    Ok(Some(First { time, followed }))
 }
 
 // An opinion for each position.
-pub fn opinions(
-    heap: Global,
-    automaton: &Automaton,
-    states: usize,
-    work: &mut [u32],
-) -> Result<Vec<Opinion>, Fault> {
+pub fn opinions(heap: Global, space: Space<'_>, work: &mut [u32]) -> Result<Vec<Opinion>, Fault> {
+    let automaton = &space.automaton;
     let ways = find_ways(heap, automaton)?;
-    let visits = search(heap, automaton, &grid_of(automaton), states)?;
+    let visits = search(heap, space)?;
     let explored = explore(automaton.words(), KINDS, work);
     let mut all = Vec::new(heap);
-    for location in 0..automaton.locations() {
+    for (location, has_way) in (0..automaton.locations()).zip(ways) {
         let asked = look_up(explored, location as usize);
-        let has_way = ways.get(location as usize).copied().unwrap_or(false);
-        all.push(opinion_on(heap, automaton, &visits, location, asked, has_way)?)?;
+        let first = first_at(heap, automaton, &visits, location)?;
+        all.push(Opinion::new(asked, has_way, first))?;
     }
     Ok(all)
 }

@@ -1,8 +1,9 @@
 // What is printed: opinions on positions, differences, and counts.
+use crate::comparison::Kind;
 use crate::counts::{Counts, Tally};
 use crate::opinions::Opinion;
 use crate::texts::{Found, Numbers, Told};
-use crate::trails::Followed;
+use crate::trails::Astray;
 use std::io;
 
 // One line with both answers for a position.
@@ -13,14 +14,15 @@ pub fn print_opinion(
     opinion: &Opinion,
 ) -> io::Result<()> {
     let told = Told(opinion.asked);
-    let found = Found(opinion.found);
+    let found = Found(opinion.first.map(|first| first.time));
     println!(rt; "{file}, {position}: {told}; in sixtieths {found}")
 }
 
 fn what_differs(opinion: &Opinion) -> &'static str {
-    match opinion.followed {
-        Some(Followed::Refused(_)) => "and the run found is refused",
-        Some(Followed::EndsElsewhere(_)) => "and the run found ends elsewhere or at another time",
+    match opinion.first.map(|first| first.followed) {
+        Some(Err(Astray::Refused(_))) => "and the run found is refused",
+        Some(Err(Astray::EndsElsewhere(_))) =>
+            "and the run found ends elsewhere or at another time",
         _ => "which contradict each other",
     }
 }
@@ -32,7 +34,7 @@ fn print_difference(
     opinion: &Opinion,
 ) -> io::Result<()> {
     let told = Told(opinion.asked);
-    let found = Found(opinion.found);
+    let found = Found(opinion.first.map(|first| first.time));
     let differs = what_differs(opinion);
     let row = Numbers(row);
     println!(rt;
@@ -49,7 +51,7 @@ pub fn note(
     opinion: &Opinion,
 ) -> io::Result<()> {
     counts.note(opinion.kind, opinion.finding);
-    if opinion.followed.is_some() {
+    if opinion.first.is_some() {
         counts.note_followed();
     }
     if opinion.differs() {
@@ -59,22 +61,19 @@ pub fn note(
     Ok(())
 }
 
-fn print_tally(rt: &HostRuntime, name: &str, tally: &Tally) -> io::Result<()> {
+fn print_tally(rt: &HostRuntime, kind: Kind, tally: Tally) -> io::Result<()> {
     let positions = tally.positions();
     let exact = tally.exact;
     let later = tally.later;
     let missing = tally.missing;
-    println!(rt; "{name:<32}{positions:>10}{exact:>10}{later:>10}{missing:>10}")
+    println!(rt; "{kind:<32}{positions:>10}{exact:>10}{later:>10}{missing:>10}")
 }
 
 pub fn print_counts(rt: &HostRuntime, counts: &Counts) -> io::Result<()> {
     println!(rt; "answer                           positions   as told     later not found")?;
-    print_tally(rt, "at 0", &counts.at_start)?;
-    print_tally(rt, "at a time above 0", &counts.at_later)?;
-    print_tally(rt, "after a time", &counts.after)?;
-    print_tally(rt, "never, with a way in the drawing", &counts.never_on_way)?;
-    print_tally(rt, "never, without one", &counts.never_off_way)?;
-    print_tally(rt, "no answer", &counts.no_answer)?;
+    for kind in Kind::ALL {
+        print_tally(rt, kind, counts.tally(kind))?;
+    }
     let followed = counts.followed;
     let differences = counts.differences;
     println!(rt; "runs gone through again: {followed}")?;

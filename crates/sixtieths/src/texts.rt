@@ -1,7 +1,7 @@
 // Answers, times and rows as text.
 use clocks::answers::Asked;
 use grids::grid::PARTS;
-use replay::fractions::lowest;
+use replay::fractions::Fraction;
 use std::fmt;
 
 #[derive(Clone, Copy)]
@@ -34,21 +34,18 @@ impl fmt::Display for Told {
 impl fmt::Display for Time {
     fn fmt<W: fmt::Write>(&self, f: &mut fmt::Formatter<W>) -> fmt::Result {
         let whole = self.0 / PARTS;
-        let (above, below) = lowest(self.0 % PARTS, PARTS);
-        if above == 0 {
+        let part = Fraction::lowest(self.0 % PARTS, PARTS);
+        if part.numerator == 0 {
             return write!(f, "{whole}");
         }
-        write!(f, "{whole} {above}/{below}")
+        write!(f, "{whole} {part}")
     }
 }
 
 impl fmt::Display for Found {
     fn fmt<W: fmt::Write>(&self, f: &mut fmt::Formatter<W>) -> fmt::Result {
         match self.0 {
-            Some(parts) => {
-                let time = Time(parts);
-                write!(f, "first at {time}")
-            }
+            Some(parts) => write!(f, "first at {}", Time(parts)),
             None => f.write_str("never"),
         }
     }
@@ -59,7 +56,6 @@ impl<'a> fmt::Display for Numbers<'a> {
     fn fmt<W: fmt::Write>(&self, f: &mut fmt::Formatter<W>) -> fmt::Result {
         for (place, number) in self.0.iter().enumerate() {
             f.write_str(if place == 0 { "" } else { " " })?;
-            let number = *number;
             write!(f, "{number}")?;
         }
         Ok(())

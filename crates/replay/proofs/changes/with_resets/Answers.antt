@@ -2,18 +2,18 @@
 use Rattle.std.proofs.Common.{◌<◌, get_or, sym, ◌∙◌, arith}
 use Rattle.replay.proofs.Resets.{one_reset, no_reset, resets-end}
 use Rattle.replay.proofs.changes.with_resets.Goals as goal
-use Rattle.replay.proofs.changes.with_resets.Goals.{then-place-lt-MOST_CLOCKS, else-place-lt-MOST_CLOCKS}
+use Rattle.replay.proofs.changes.with_resets.Goals.{then-place-lt-CLOCKS, else-place-lt-CLOCKS}
 
 pub loop-clock-preserved : goal.loop-clock-preserved
 loop-clock-preserved c =
     λ i h.
     let inside : c.loop-clock.clock-index < _ = c.loop-clock-test.true in
-    elim c.if-place-lt-MOST_CLOCKS.branch [
-      | then-place-lt-MOST_CLOCKS w ↦
+    elim c.if-place-lt-CLOCKS.branch [
+      | then-place-lt-CLOCKS w ↦
           rw
           w.after-is
           (one_reset c.args.resets.now c.loop-clock.clock-index i c.loop-clock.after inside ∙ c.loop-clock.invariant i h)
-      | else-place-lt-MOST_CLOCKS w ↦
+      | else-place-lt-CLOCKS w ↦
           rw
           w.after-is
           (no_reset c.args.resets.now c.loop-clock.clock-index i c.loop-clock.after inside (λ e. omega arith) ∙ c.loop-clock.invariant i h)

@@ -51,7 +51,7 @@ all_made a d ms i m pos h f =
 
 pub returns-in_err-moment : goal.returns-in_err-moment
 returns-in_err-moment c =
-    let p = err_from_is_err_and c.from_residual.result c.from_residual.ensures.1 in
+    let p = err_from_is_err_and c.from_residual-in_err-moment.result c.from_residual-in_err-moment.ensures.1 in
     rw
     (p.1, p.2)
     (λ a views.
@@ -64,26 +64,28 @@ returns-in_err-moment c =
 pub loop-next-init : goal.loop-next-init
 loop-next-init c =
     λ a views.
-    let (at, come) = c.in_ok-moment.ensures a views in
-    followed_start a c.args.denominator c.in_ok-moment.moment (reads_in_range views.reads).clocks at (come c.args.denominator)
+    let (at, come) = c.in_ok-moment.ensures a (rw c.in_ok-player.ensures.0 at views) in
+    followed_start a c.in_ok-player.player.denominator c.in_ok-moment.moment (reads_in_range views.reads).clocks at (come c.in_ok-player.player.denominator)
 
 pub returns-in_err-moment-2 : goal.returns-in_err-moment-2
 returns-in_err-moment-2 c =
     let p = err_from_is_err_and c.from_residual-in_err-moment-2.result c.from_residual-in_err-moment-2.ensures.1 in
     rw
-    (p.1, p.2)
+    (p.1, p.2, ← c.in_ok-player.ensures.0, ← c.in_ok-player.ensures.1)
     (λ a views.
-    none_more a c.args.denominator c.args.moves.now c.loop-next.next-index c.loop-next.moment
+    none_more a c.in_ok-player.player.denominator c.args.moves.now c.loop-next.next-index c.loop-next.moment
     c.in_err-moment-2.field-0.0 c.loop-next-test.true (c.loop-next.invariant a views) (c.in_err-moment-2.ensures a views))
 
 pub loop-next-preserved : goal.loop-next-preserved
 loop-next-preserved c =
     λ a views.
-    one_more a c.args.denominator c.args.moves.now c.loop-next.next-index c.loop-next.moment
+    one_more a c.in_ok-player.player.denominator c.args.moves.now c.loop-next.next-index c.loop-next.moment
     c.in_ok-moment-2.moment c.loop-next-test.true (c.loop-next.invariant a views) (c.in_ok-moment-2.ensures a views)
 
 pub returns : goal.returns
 returns c =
-    λ a views.
-    all_made a c.args.denominator c.args.moves.now c.loop-next.next-index c.loop-next.moment
-    (omega arith) c.loop-next-test.false (c.loop-next.invariant a views)
+    rw
+    (← c.in_ok-player.ensures.0, ← c.in_ok-player.ensures.1)
+    (λ a views.
+    all_made a c.in_ok-player.player.denominator c.args.moves.now c.loop-next.next-index c.loop-next.moment
+    c.in_ok-player.player.positive c.loop-next-test.false (c.loop-next.invariant a views))

@@ -7,4 +7,4 @@ use Rattle.replay.proofs.runs.replay.Given as goal
 
 abbrev pub invariant-loop-next : goal.invariant-loop-next
 invariant-loop-next l =
-    (a : Automaton) → Views l.automaton a → Followed a l.denominator (take l.next-index l.moves) l.moment
+    (a : Automaton) → Views l.player.automaton a → Followed a l.player.denominator (take l.next-index l.moves) l.moment

@@ -1,0 +1,58 @@
+-- All constraints of a conjunction, one after the other.
+use Rattle.std.proofs.Common.{◌≡◌, ℕ, zero, suc, ◌<◌, Bool, true, false, List, [], ◌∷◌, Option, length, get_or, refl, subst, ap, ◌∙◌, arith}
+use mathlib.Core.Option.{some}
+use Rattle.std.specs.Bool.{MatchBool}
+use Rattle.std.specs.List.{AllWithin, HoldsAt}
+use Rattle.std.proofs.lemmas.Iterator.{YieldsList}
+use Rattle.std.proofs.lemmas.Iterator.Consumers.{YieldsList-from_shown}
+use Rattle.automata.specs.Automata.{nth, Relation, at_most, below, at_least, above, Constraint}
+use Rattle.automata.specs.Rows.{code, write_constraints}
+use Rattle.rows.specs.declared.constraints.Constraint as constraints
+use Rattle.rows.specs.declared.constraints.Constraints.{Constraints}
+use Rattle.rows.specs.Parts.{constraint_value}
+use Rattle.rows.specs.Parse.{relation_of}
+use Rattle.rows.specs.Values.{constraints_value, NextConstraint}
+use Rattle.replay.specs.Checks.{Decides, MeetsParts, HoldsParts}
+use Rattle.replay.proofs.Lists.{some_within, some_same}
+
+nth_is : {A : Type 0} (xs : List A) (i : ℕ) (d : A) → i < length xs → nth xs i ≡ some (get_or xs i d)
+nth_is [] i d h = absurd (omega arith)
+nth_is (x ∷ xs) zero d h = refl
+nth_is (x ∷ xs) (suc i) d h = nth_is xs i d (omega arith)
+
+-- the constraint holds of the clocks' values
+abbrev pub Meets : ℕ → (ℕ → ℕ) → Constraint → Type 0
+Meets d value c = MeetsParts d c.relation (value c.clock) c.bound
+
+abbrev any : Constraint
+any = record { clock = 0; relation = at_most; bound = 0 }
+
+pub all_decide : (d : ℕ) (value : ℕ → ℕ) (cs : List Constraint) (b : Bool)
+    → MatchBool b (AllWithin (Meets d value) cs 0 (length cs)) ((i : ℕ) × (i < length cs) × HoldsAt (λ c. Meets d value c → ⊥) cs i)
+    → Decides b (HoldsParts d value cs)
+all_decide d value cs true all =
+    λ i c e.
+    let inside = some_within cs i c e in
+    subst (Meets d value) (some_same (nth cs i) (get_or cs i c) c (nth_is cs i c inside) e) (all i c (omega arith) inside)
+all_decide d value cs false (i, inside, not) = λ holds. not any (holds i (get_or cs i any) (nth_is cs i any inside))
+
+abbrev Steps : Constraints → Option constraints.Constraint → Constraints → Type 0
+Steps s r t = NextConstraint (constraints_value s.words.now) r (constraints_value t.words.now)
+
+pub yields : (s : Constraints) → YieldsList Steps constraint_value s (constraints_value s.words.now)
+yields = YieldsList-from_shown Steps constraint_value (λ s. constraints_value s.words.now) (λ s t e. ap length e) (λ s x t e. e)
+
+relation_back : (r : Relation) → relation_of (code r) ≡ r
+relation_back at_most = refl
+relation_back below = refl
+relation_back at_least = refl
+relation_back above = refl
+
+pub written : (cs : List Constraint) → constraints_value (write_constraints cs) ≡ cs
+written [] = refl
+written (c ∷ cs) =
+    ap (λ (r : Relation). record { clock = c.clock; relation = r; bound = c.bound } ∷ constraints_value (write_constraints cs)) (relation_back c.relation)
+    ∙ ap (λ (ds : List Constraint). c ∷ ds) (written cs)
+
+pub written_as : (ws : List ℕ) (cs : List Constraint) → ws ≡ write_constraints cs → constraints_value ws ≡ cs
+written_as ws cs e = ap constraints_value e ∙ written cs
