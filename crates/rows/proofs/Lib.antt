@@ -4,3 +4,4 @@ pub mod Walking
 pub mod Whole
 pub mod Parts
 pub mod Values
+pub mod Invariants

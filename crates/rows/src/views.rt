@@ -18,6 +18,14 @@ pub struct Automaton<'a> {
     ghost viewed: { Viewed row.now clocks locations edges (value_of row.now) },
 }
 
+// The invariants from a word of the row on, so many.
+#[derive(Clone, Copy)]
+pub struct Invariants<'a> {
+    row: &'a [u32],
+    at: usize,
+    left: u32,
+}
+
 // The edges from a word of the row on.
 #[derive(Clone, Copy)]
 pub struct Edges<'a> {
@@ -26,7 +34,7 @@ pub struct Edges<'a> {
 }
 
 impl<'a> Automaton<'a> {
-    ghost use Rattle.rows.specs.Views.{Made, automaton_value, InvariantIs, EdgesAre};
+    ghost use Rattle.rows.specs.Views.{Made, automaton_value, InvariantIs, InvariantsAre, EdgesAre};
 
     pub(crate) fn new(row: &'a [u32], clocks: u32, locations: u32, edges: usize) -> Self
         requires { Viewed row.now clocks locations edges (value_of row.now) }
@@ -70,17 +78,18 @@ impl<'a> Automaton<'a> {
     pub fn invariant(&self, location: Location) -> Option<Conjunction<'a>>
         ensures { InvariantIs (nth (automaton_value self.now).invariants location.0) result }
     {
-        if location.0 >= self.locations {
-            return None;
+        self.invariants().nth(location.0 as usize)
+    }
+
+    // The invariants of all locations, in their order.
+    pub fn invariants(&self) -> Invariants<'a>
+        ensures { InvariantsAre (automaton_value self.now).invariants result }
+    {
+        Invariants {
+            row: self.row,
+            at: 2,
+            left: self.locations,
         }
-        let row = self.row;
-        let mut at = 2;
-        for _ in 0..location.0 {
-            let (_, end) = conjunction_at(row, at)?;
-            at = end;
-        }
-        let (conjunction, _) = conjunction_at(row, at)?;
-        Some(conjunction)
     }
 
     pub fn edges(&self) -> Edges<'a>
@@ -90,6 +99,24 @@ impl<'a> Automaton<'a> {
             row: self.row,
             at: self.edges,
         }
+    }
+}
+
+impl<'a> Iterator for Invariants<'a> {
+    ghost use Rattle.rows.specs.Views.{InvariantsAre, NextInvariant};
+
+    type Item = Conjunction<'a>;
+
+    ghost next_gives = { λ s r t. ((css : List (List automata.Constraint)) → InvariantsAre css s → NextInvariant css r t) };
+
+    ghost remaining = { λ s. at_most s.left };
+
+    fn next(&mut self) -> Option<Conjunction<'a>> {
+        let left = self.left.checked_sub(1)?;
+        let (conjunction, end) = conjunction_at(self.row, self.at)?;
+        self.at = end;
+        self.left = left;
+        Some(conjunction)
     }
 }
 
