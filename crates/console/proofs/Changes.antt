@@ -1,7 +1,9 @@
 -- Words that differ at one place: what is left of them after their common start differs at its start.
-use Rattle.std.proofs.Common.{◌≡◌, ℕ, zero, suc, ◌<◌, ◌≤◌, Bool, true, List, [], ◌∷◌, ◌++◌, map, length, get_or, drop, sym, refl, ap, ◌∙◌, subst, inl, inr, arith}
+use Rattle.std.proofs.Common.{◌≡◌, ℕ, zero, suc, ◌-◌, ◌<◌, ◌≤◌, Bool, true, List, [], ◌∷◌, ◌++◌, map, length, get_or, take, drop, sym, refl, ap, ◌∙◌, subst, inl, inr, arith}
+use Rattle.std.specs.Bool.{Decides}
 use Rattle.std.specs.Char.{to_ascii_lowercase}
 use Rattle.std.specs.Str.{chars}
+use Rattle.std.proofs.lemmas.List.{take_rest}
 use Rattle.console.specs.Nearness.{Exchange, OneChange, Nearly, Swapped, StartChange, changed, left_out, put_in, swapped}
 
 -- where the front is empty
@@ -170,3 +172,16 @@ only_swapped xs ys r no_change none_left none-put swap (swapped e) = swap e
 pub only_changed : (xs ys : List ℕ) (r : Bool) → (map to_ascii_lowercase xs ≡ map to_ascii_lowercase ys → ⊥) → (OneChange (chars xs) (chars ys) → r ≡ true) → Nearly xs ys → r ≡ true
 only_changed xs ys r other change (inl e) = absurd (other e)
 only_changed xs ys r other change (inr h) = change h
+
+-- where the first two elements are the same in the other order
+pub swapped_at : (xs ys : List ℕ) (r : Bool) (a b c d : ℕ) → 2 ≤ length xs → 2 ≤ length ys → a ≡ get_or xs 0 a → b ≡ get_or xs 1 b → c ≡ get_or ys 0 c → d ≡ get_or ys 1 d → a ≡ d → b ≡ c → Decides r (take (length xs - 2) (drop 2 xs) ≡ take (length ys - 2) (drop 2 ys)) → Decides r (Swapped xs ys)
+swapped_at [] ys r a b c d le ge p q s t e f h = absurd (omega arith)
+swapped_at (x ∷ []) ys r a b c d le ge p q s t e f h = absurd (omega arith)
+swapped_at (x ∷ v ∷ xs) [] r a b c d le ge p q s t e f h = absurd (omega arith)
+swapped_at (x ∷ v ∷ xs) (y ∷ []) r a b c d le ge p q s t e f h = absurd (omega arith)
+swapped_at (x ∷ v ∷ xs) (y ∷ w ∷ ys) r a b c d le ge p q s t e f h =
+    let first = take_rest (x ∷ v ∷ xs) 2 in
+    let second = take_rest (y ∷ w ∷ ys) 2 in (
+      λ yes'. (le, ge, sym p ∙ (e ∙ t), sym q ∙ (f ∙ s), sym first ∙ (h.0 yes' ∙ second)),
+      λ swap. h.1 (first ∙ (swap.4 ∙ sym second)),
+    )

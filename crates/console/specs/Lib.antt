@@ -2,6 +2,7 @@
 pub mod Numbers
 pub mod Rows
 pub mod Mistakes
+pub mod Calls
 pub mod Budget
 pub mod Names
 pub mod Nearness

@@ -1,5 +1,5 @@
 -- Words that are nearly the same.
-use Rattle.std.specs.Prelude.{◌≡◌, ℕ, ◌≤◌, ◌⊎◌, List, [], ◌∷◌, ◌++◌, map, length, drop, slice_index}
+use Rattle.std.specs.Prelude.{◌≡◌, ℕ, ◌<◌, ◌≤◌, ◌⊎◌, List, [], ◌∷◌, ◌++◌, map, length, drop, Some, None, Option, slice_index, slice_index_or}
 use Rattle.std.specs.Char.{to_ascii_lowercase}
 use Rattle.std.specs.Str.{chars}
 
@@ -34,3 +34,10 @@ pub data StartChange (xs ys : List ℕ) : Type 0 where
   left_out : drop 1 xs ≡ ys → StartChange xs ys
   put_in : xs ≡ drop 1 ys → StartChange xs ys
   swapped : Swapped xs ys → StartChange xs ys
+
+-- the first of some words that is nearly a word, or none where none is
+abbrev pub NearestIs : List (List ℕ) → List ℕ → Option (List ℕ) → Type 0
+NearestIs words word (Some found) =
+    (n : ℕ) × (n < length words) × (slice_index_or words n [] ≡ found) × Nearly found word
+    × ((k : ℕ) → k < n → Nearly (slice_index_or words k []) word → ⊥)
+NearestIs words word None = (k : ℕ) → k < length words → Nearly (slice_index_or words k []) word → ⊥

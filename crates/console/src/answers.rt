@@ -1,46 +1,42 @@
 // Answers as text: `at 5`, `after 2`, `never`, and lines with a name and an answer in columns.
-ghost use Rattle.std.specs.Prelude.{◌≡◌, ◌++◌, string_bytes, decimal, OnOk};
+ghost use Rattle.std.specs.Prelude.{◌≡◌, Some, string_bytes, OnOk};
 ghost use Rattle.clockworks.specs.Meaning.{Adds};
-ghost use Rattle.console.specs.Answers.{answer_text, blanks, columns, line_text};
+ghost use Rattle.console.specs.Answers.{answer_text, columns, line_text};
 
 use clocks::answers::Asked;
 use std::alloc::AllocError;
+use std::fmt;
 
-// Words, a number, and words.
-fn write_phrase(text: &mut String, before: &str, number: u32, after: &str) -> Result<(), AllocError>
-    ensures { OnOk result (Adds (string_bytes text.old) (before.now ++ (decimal number ++ after.now)) (string_bytes text.new)) }
-{
-    write!(text, "{before}{number}{after}")
+// An answer, where so many kinds of states were allowed.
+#[derive(Clone, Copy)]
+pub struct Answer {
+    pub asked: Asked,
+    pub kinds: u32,
 }
 
-fn write_words(text: &mut String, words: &str) -> Result<(), AllocError>
-    ensures { OnOk result (Adds (string_bytes text.old) words.now (string_bytes text.new)) }
-{
-    write!(text, "{words}")
+impl fmt::Display for Answer {
+    ghost output = { λ answer. Some (answer_text answer.kinds answer.asked) };
+
+    fn fmt<W: fmt::Write>(&self, f: &mut fmt::Formatter<W>) -> fmt::Result {
+        let kinds = self.kinds;
+        match self.asked {
+            Asked::At(time) => write!(f, "at {time}"),
+            Asked::After(time) => write!(f, "after {time}"),
+            Asked::Never => f.write_str("never"),
+            Asked::Many => write!(f, "many: more than {kinds} kinds of states"),
+            Asked::NoWork => f.write_str("no clockwork"),
+            Asked::NoPlace => f.write_str("no such position"),
+            Asked::Few => f.write_str("too few words"),
+        }
+    }
 }
 
 // What an answer says, where so many kinds were allowed.
 pub fn write_answer(text: &mut String, asked: Asked, kinds: u32) -> Result<(), AllocError>
     ensures { OnOk result (Adds (string_bytes text.old) (answer_text kinds asked) (string_bytes text.new)) }
 {
-    match asked {
-        Asked::At(time) => write!(text, "at {time}"),
-        Asked::After(time) => write!(text, "after {time}"),
-        Asked::Never => write_words(text, "never"),
-        Asked::Many => write_phrase(text, "many: more than ", kinds, " kinds of states"),
-        Asked::NoWork => write_words(text, "no clockwork"),
-        Asked::NoPlace => write_words(text, "no such position"),
-        Asked::Few => write_words(text, "too few words"),
-    }
-}
-
-fn write_blanks(text: &mut String, count: usize) -> Result<(), AllocError>
-    ensures { OnOk result (Adds (string_bytes text.old) (blanks count) (string_bytes text.new)) }
-{
-    for _ in 0..count {
-        write!(text, " ")?;
-    }
-    Ok(())
+    let answer = Answer { asked, kinds };
+    write!(text, "{answer}")
 }
 
 // How many columns a text takes: one for each character.
@@ -60,10 +56,7 @@ pub fn write_line(
 ) -> Result<(), AllocError>
     ensures { OnOk result (Adds (string_bytes text.old) (line_text kinds width name.now asked) (string_bytes text.new)) }
 {
-    write_words(text, name)?;
-    write_blanks(text, width.saturating_sub(count_columns(name)))?;
-    write_words(text, "  ")?;
-    write_answer(text, asked, kinds)?;
-    write_words(text, "\n")?;
-    Ok(())
+    let answer = Answer { asked, kinds };
+    let blanks = width.saturating_sub(count_columns(name));
+    write!(text, "{name}{:blanks$}  {answer}\n", "")
 }

@@ -46,8 +46,5 @@ pub fn lend_words(heap: Global, row: usize, kinds: u32) -> Result<Vec<u32>, Prob
             fit: kinds_that_fit(row),
         });
     }
-    match vec![in heap; 0; words] {
-        Ok(words) => Ok(words),
-        Err(_) => Err(Problem::Memory),
-    }
+    Ok(vec![in heap; 0; words]?)
 }

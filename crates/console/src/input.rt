@@ -1,5 +1,6 @@
 // The text of a file or of standard input, of bounded length.
-ghost use Rattle.std.specs.Prelude.{◌≤◌, length, IfOk, vec_len};
+ghost use Rattle.std.specs.Prelude.{◌≤◌, option_map, IfOk, vec_len};
+ghost use Rattle.console.specs.Calls.{SourceIs};
 
 use crate::budget::TEXT_BYTES;
 use crate::messages::Problem;
@@ -8,12 +9,22 @@ use std::fs::File;
 use std::io::Read;
 use std::{fmt, io};
 
-const CHUNK: usize = 4096;
-
 #[derive(Clone, Copy)]
 pub enum Source<'a> {
     Input,
     File(&'a str),
+}
+
+impl<'a> Source<'a> {
+    // Standard input where no file is named, or `-` is.
+    pub fn of(file: Option<&'a str>) -> Source<'a>
+        ensures { SourceIs (option_map (λ name. name.now) file.entry) result }
+    {
+        match file {
+            None | Some("-") => Source::Input,
+            Some(name) => Source::File(name),
+        }
+    }
 }
 
 impl<'a> fmt::Display for Source<'a> {
@@ -25,32 +36,20 @@ impl<'a> fmt::Display for Source<'a> {
     }
 }
 
-fn read_chunk(reader: &mut impl Read, chunk: &mut [u8]) -> Result<usize, Problem>
-    ensures { IfOk result (λ count. count ≤ length chunk.old) }
-{
-    match reader.read(chunk) {
-        Ok(count) => Ok(count),
-        Err(error) => Err(Problem::Unreadable(error)),
-    }
-}
-
-// Each turn but the last takes a byte or more, so that the turns suffice.
+// One byte more than a text may have is read, to tell a text that is too large, and there is room for another, so that the bytes never move.
 fn read_all(heap: Global, reader: &mut impl Read) -> Result<Vec<u8>, Problem>
     ensures { IfOk result (λ bytes. vec_len bytes ≤ 262144) }
 {
-    let mut bytes = Vec::with_capacity(heap, TEXT_BYTES)?;
-    let mut chunk = [0u8; CHUNK];
-    for _ in 0..=TEXT_BYTES {
-        let count = read_chunk(reader, &mut chunk)?;
-        if count == 0 {
-            return Ok(bytes);
-        }
-        if bytes.len() > TEXT_BYTES || count > TEXT_BYTES - bytes.len() {
-            return Err(Problem::TooLarge);
-        }
-        bytes.extend_from_slice(&chunk[..count])?;
+    let mut bytes = Vec::with_capacity(heap, TEXT_BYTES + 2)?;
+    reader
+        .by_ref()
+        .take(TEXT_BYTES as u64 + 1)
+        .read_to_end(&mut bytes)
+        .map_err(Problem::Unreadable)?;
+    if bytes.len() > TEXT_BYTES {
+        return Err(Problem::TooLarge);
     }
-    Err(Problem::TooLarge)
+    Ok(bytes)
 }
 
 // At most as many bytes as a text may have.
@@ -60,12 +59,9 @@ pub fn read(rt: &HostRuntime, source: Source<'_>) -> Result<Vec<u8>, Problem>
     let heap = rt.alloc();
     match source {
         Source::Input => read_all(heap, &mut rt.stdin()),
-        Source::File(name) => match File::open(rt, name) {
-            Ok(file) => {
-                let mut file = file;
-                read_all(heap, &mut file)
-            }
-            Err(error) => Err(Problem::Unreadable(error)),
-        },
+        Source::File(name) => {
+            let mut file = File::open(rt, name).map_err(Problem::Unreadable)?;
+            read_all(heap, &mut file)
+        }
     }
 }

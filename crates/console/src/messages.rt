@@ -1,4 +1,7 @@
 // What the programs tell beside their answers: why there is none, and where.
+ghost use Rattle.std.specs.Prelude.{◌≡◌};
+ghost use Rattle.console.specs.declared.messages.Problem.TheVariants.{Memory};
+
 use crate::budget::TEXT_BYTES;
 use crate::input::Source;
 use crate::positions::Unknown;
@@ -59,6 +62,8 @@ pub struct Report<'a> {
 }
 
 impl From<AllocError> for Problem {
+    ghost from_gives = { λ _ problem. problem ≡ Memory };
+
     fn from(_e: AllocError) -> Problem {
         Problem::Memory
     }
@@ -68,6 +73,21 @@ impl From<AllocError> for Problem {
 impl From<fmt::Error> for Problem {
     fn from(_e: fmt::Error) -> Problem {
         Problem::Memory
+    }
+}
+
+impl From<Refusal> for Problem {
+    fn from(refusal: Refusal) -> Problem {
+        Problem::Drawing(refusal)
+    }
+}
+
+impl From<Unfit> for Problem {
+    fn from(unfit: Unfit) -> Problem {
+        match unfit {
+            Unfit::Memory => Problem::Memory,
+            unfit => Problem::Unfit(unfit),
+        }
     }
 }
 

@@ -1,9 +1,10 @@
 // Whether one word is nearly another, so that what was mistyped is told with what was meant.
-ghost use Rattle.std.specs.Prelude.{◌≡◌, ℕ, ◌<◌, ◌≤◌, length, drop, IfOk, Decides, ◌≢◌, slice_index};
+ghost use Rattle.std.specs.Prelude.{◌≡◌, ℕ, ◌<◌, ◌≤◌, length, drop, IfOk, Decides, ◌≢◌, slice_index, map, option_map};
 ghost use Rattle.std.specs.Str.{chars};
-ghost use Rattle.console.specs.Nearness.{Nearly, OneChange, StartChange, Swapped};
+ghost use Rattle.console.specs.Nearness.{Nearly, NearestIs, OneChange, StartChange, Swapped};
 
 use std::alloc::{AllocError, Global};
+use std::convert::AsStr;
 
 // How many characters both begin with.
 fn common_start(a: &[char], b: &[char]) -> usize
@@ -11,51 +12,39 @@ fn common_start(a: &[char], b: &[char]) -> usize
     ensures before { (k : ℕ) → k < result → slice_index a.now k ≡ slice_index b.now k }
     ensures differ { result < length a.now → result < length b.now → slice_index a.now result ≢ slice_index b.now result }
 {
-    let most = a.len().min(b.len());
-    for place in 0..most {
-        if a[place] != b[place] {
-            return place;
-        }
-    }
-    most
-}
-
-fn is_same(a: &[char], b: &[char]) -> bool
-    ensures { Decides result (a.now ≡ b.now) }
-{
-    a == b
+    a.iter()
+        .zip(b)
+        .position(|(x, y)| x != y)
+        .unwrap_or(a.len().min(b.len()))
 }
 
 fn rest(word: &[char]) -> &[char]
     ensures { result.now ≡ drop 1 word.now }
 {
-    if word.is_empty() { word } else { &word[1..] }
+    match word {
+        [_, rest @ ..] => rest,
+        [] => word,
+    }
 }
 
 // Whether the first two characters of both are the same in the other order, and what follows is the same.
 fn is_swapped(a: &[char], b: &[char]) -> bool
     ensures { Decides result (Swapped a.now b.now) }
 {
-    if a.len() < 2 || b.len() < 2 {
+    let [a_first, a_second, a_rest @ ..] = a else {
         return false;
-    }
-    if a[0] != b[1] || a[1] != b[0] {
+    };
+    let [b_first, b_second, b_rest @ ..] = b else {
         return false;
-    }
-    is_same(rest(rest(a)), rest(rest(b)))
+    };
+    a_first == b_second && a_second == b_first && a_rest == b_rest
 }
 
 // Whether the first character was changed, left out or put in, or swapped with the second, or nothing is different.
 fn differs_at_start(a: &[char], b: &[char]) -> bool
     ensures { Decides result (StartChange a.now b.now) }
 {
-    if is_same(rest(a), rest(b)) {
-        return true;
-    }
-    if is_same(rest(a), b) {
-        return true;
-    }
-    if is_same(a, rest(b)) {
+    if rest(a) == rest(b) || rest(a) == b || a == rest(b) {
         return true;
     }
     is_swapped(a, b)
@@ -85,4 +74,20 @@ pub fn is_nearly(heap: Global, a: &str, b: &str) -> Result<bool, AllocError>
     let first = characters(heap, a)?;
     let second = characters(heap, b)?;
     Ok(differs_once(first.as_slice(), second.as_slice()))
+}
+
+// The first of some words that is nearly a word.
+pub(crate) fn nearest<'a, S: AsStr>(
+    heap: Global,
+    words: &'a [S],
+    word: &str,
+) -> Result<Option<&'a S>, AllocError>
+    ensures { IfOk result (λ found. NearestIs (map S.text words.now) word.now (option_map (λ w. S.text w.now) found)) }
+{
+    for candidate in words {
+        if is_nearly(heap, candidate.as_str(), word)? {
+            return Ok(Some(candidate));
+        }
+    }
+    Ok(None)
 }

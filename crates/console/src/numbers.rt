@@ -1,13 +1,14 @@
 // A row of numbers as text: decimal numbers with white space between them, and the place of each.
-ghost use Rattle.std.specs.Prelude.{◌≡◌, ◌≤◌, not, ◌++◌, length, IfOk, string_bytes, codes, MatchResult, OnOk};
+ghost use Rattle.std.specs.Prelude.{◌≡◌, ◌≤◌, not, ◌++◌, length, position, IfOk, string_bytes, codes, MatchResult, OnOk};
+ghost use Rattle.std.specs.Bool.{beq};
 ghost use Rattle.clockworks.specs.Meaning.{Adds};
 ghost use Rattle.console.specs.Numbers.{digit_pushed, number_of};
+ghost use Rattle.console.specs.declared.numbers.Mistake.TheVariants.{Memory};
 ghost use Rattle.console.specs.Rows.{blank as isBlankByte, FirstBlank, NextWord, RowIs, RowRefused, numbers_text};
 
 use crate::messages::Problem;
-use drawing::errors::Place;
 use rows::reader::MOST_WORDS;
-use std::alloc::{AllocError, Global};
+use std::alloc::{AllocError, AllocFailed, Global};
 
 // Why a text is no row of numbers. Words are counted from 0.
 #[derive(Clone, Copy)]
@@ -17,10 +18,25 @@ pub enum Mistake {
     TooMany,
 }
 
+impl<T: Drop> From<AllocFailed<T>> for Mistake {
+    ghost from_gives = { λ _ mistake. mistake ≡ Memory };
+
+    fn from(_e: AllocFailed<T>) -> Mistake {
+        Mistake::Memory
+    }
+}
+
 fn is_blank(byte: u8) -> bool
     ensures { result ≡ isBlankByte byte }
 {
-    byte == b' ' || (b'\t' <= byte && byte <= b'\r')
+    matches!(byte, b' ' | b'\t'..=b'\r')
+}
+
+// Where white space stands first, or else where there is none.
+fn first_blank(bytes: &[u8], blank: bool) -> Option<usize>
+    ensures { result ≡ position (λ byte. beq (isBlankByte byte) blank) bytes.now }
+{
+    bytes.iter().position(|byte| is_blank(*byte) == blank)
 }
 
 // The first place from `at` on where white space stands, or else where there is none; or else the end.
@@ -28,11 +44,8 @@ fn find_blank(bytes: &[u8], at: usize, blank: bool) -> usize
     requires { at ≤ length bytes.now }
     ensures { FirstBlank bytes.now at blank (not blank) result }
 {
-    let mut place = at;
-    while place < bytes.len() && is_blank(bytes[place]) != blank {
-        place += 1;
-    }
-    place
+    let rest = &bytes[at..];
+    at + first_blank(rest, blank).unwrap_or(rest.len())
 }
 
 // The next word from a place on, as where it begins and ends. At the end of the text it is empty.
@@ -48,7 +61,7 @@ fn next_word(bytes: &[u8], at: usize) -> (usize, usize)
 fn push_digit(number: u32, byte: u8) -> Option<u32>
     ensures { result ≡ digit_pushed number byte }
 {
-    if byte < b'0' || byte > b'9' {
+    if !byte.is_ascii_digit() {
         return None;
     }
     number.checked_mul(10)?.checked_add(u32::from(byte - b'0'))
@@ -73,22 +86,16 @@ pub fn read(heap: Global, bytes: &[u8]) -> Result<Vec<u32>, Mistake>
     ensures { MatchResult result (λ row. RowIs bytes.now row.items) (λ mistake. RowRefused bytes.now mistake) }
 {
     let mut numbers = Vec::new(heap);
-    let mut at = 0;
-    for count in 0..=MOST_WORDS {
-        let (start, end) = next_word(bytes, at);
-        if start >= bytes.len() {
-            return Ok(numbers);
-        }
-        if count == MOST_WORDS {
+    let (mut start, mut stop) = next_word(bytes, 0);
+    while start < bytes.len() {
+        if numbers.len() == MOST_WORDS {
             return Err(Mistake::TooMany);
         }
-        let Some(number) = parse(&bytes[start..end]) else {
-            return Err(Mistake::NoNumber(count));
+        let Some(number) = parse(&bytes[start..stop]) else {
+            return Err(Mistake::NoNumber(numbers.len()));
         };
-        if let Err(_) = numbers.push(number) {
-            return Err(Mistake::Memory);
-        }
-        at = end;
+        numbers.push(number)?;
+        (start, stop) = next_word(bytes, stop);
     }
     Ok(numbers)
 }
@@ -99,40 +106,20 @@ pub(crate) fn find_word(bytes: &[u8], word: usize) -> (usize, usize)
 {
     let (mut start, mut stop) = next_word(bytes, 0);
     for _ in 0..word.min(bytes.len()) {
-        let next = next_word(bytes, stop);
-        start = next.0;
-        stop = next.1;
+        (start, stop) = next_word(bytes, stop);
     }
     (start, stop)
-}
-
-// The line and column past the first `count` bytes: a byte that goes on with a character takes no column.
-pub(crate) fn place_after(bytes: &[u8], count: usize) -> Place {
-    let mut line = 1usize;
-    let mut column = 1usize;
-    for byte in bytes.iter().take(count) {
-        if *byte == b'\n' {
-            line = line.saturating_add(1);
-            column = 1;
-        } else if *byte & 0xc0 != 0x80 {
-            column = column.saturating_add(1);
-        }
-    }
-    Place { line, column }
 }
 
 // The numbers with a blank between them.
 fn write_numbers(text: &mut String, row: &[u32]) -> Result<(), AllocError>
     ensures { OnOk result (Adds (string_bytes text.old) (numbers_text row.now) (string_bytes text.new)) }
 {
-    if row.is_empty() {
+    let [first, rest @ ..] = row else {
         return Ok(());
-    }
-    let first = row[0];
+    };
     write!(text, "{first}")?;
-    let rest = &row[1..];
     for number in rest {
-        let number = *number;
         write!(text, " {number}")?;
     }
     Ok(())

@@ -1,11 +1,14 @@
 // The words of a call that cannot be understood, and why.
-ghost use Rattle.std.specs.Prelude.{◌≡◌, Some, string_bytes, MatchResult};
+ghost use Rattle.std.specs.Prelude.{◌≡◌, ◌≤◌, Some, length, string_bytes, is_some, Decides, MatchResult};
+ghost use Rattle.std.specs.Vec.Iter.{into_iter_items};
+ghost use Rattle.console.specs.Calls.{OptionIs, FileSet, ValueIs};
 ghost use Rattle.console.specs.Numbers.{number_of};
 ghost use Rattle.console.specs.Mistakes.{NumberRefused};
 
-use crate::nearness::is_nearly;
+use crate::nearness::nearest;
 use crate::numbers;
 use std::alloc::{AllocError, Global};
+use std::env::Args;
 use std::fmt;
 
 // Why a call cannot be understood.
@@ -34,31 +37,62 @@ pub struct BadCall<'a> {
     pub mistake: &'a Mistake,
 }
 
+// What a call asks for: what the program says of itself, or its work with some options.
+#[derive(Drop)]
+pub enum Request<T> {
+    Help,
+    Version,
+    Show(T),
+}
+
 impl From<AllocError> for Mistake {
     fn from(_e: AllocError) -> Mistake {
         Mistake::Memory
     }
 }
 
-// The first option that is nearly a word.
-fn nearest(
-    heap: Global,
-    options: &[&'static str],
-    word: &str,
-) -> Result<Option<&'static str>, AllocError> {
-    for option in options {
-        if is_nearly(heap, option, word)? {
-            return Ok(Some(*option));
-        }
+// A word that begins with `-` is an option, but for `-` alone, which is a file.
+pub fn is_option(word: &str) -> bool
+    ensures { Decides result (OptionIs word.now) }
+{
+    matches!(word.as_bytes(), [b'-', _, ..])
+}
+
+// The file that is named: only one may be.
+pub fn set_file(file: &mut Option<String>, word: String) -> Result<(), Mistake>
+    ensures { FileSet file.old word result file.new }
+{
+    if file.is_some() {
+        return Err(Mistake::SecondFile(word));
     }
-    Ok(None)
+    *file = Some(word);
+    Ok(())
+}
+
+// The word after an option that has a value: it must be there, and the option may stand only once.
+pub fn value<T>(
+    words: &mut Args,
+    option: &'static str,
+    given: &Option<T>,
+) -> Result<String, Mistake>
+    ensures value { ValueIs (into_iter_items words.old) option.entry (is_some given.now) result (into_iter_items words.new) }
+    ensures fewer { length (into_iter_items words.new) ≤ length (into_iter_items words.old) }
+{
+    let word = words.next().ok_or(Mistake::NoValue(option))?;
+    if given.is_some() {
+        return Err(Mistake::Twice(option));
+    }
+    Ok(word)
 }
 
 // No option is called so: told with the option that is nearly it.
 pub fn refuse(heap: Global, options: &[&'static str], word: String) -> Mistake {
     match nearest(heap, options, word.as_str()) {
-        Ok(nearest) => Mistake::Unknown { word, nearest },
-        Err(_) => Mistake::Memory,
+        Ok(nearest) => Mistake::Unknown {
+            nearest: nearest.copied(),
+            word,
+        },
+        Err(error) => Mistake::from(error),
     }
 }
 
@@ -66,10 +100,7 @@ pub fn refuse(heap: Global, options: &[&'static str], word: String) -> Mistake {
 pub fn number(option: &'static str, word: String) -> Result<u32, Mistake>
     ensures { MatchResult result (λ n. number_of (string_bytes word) ≡ Some n) (λ m. NumberRefused word m) }
 {
-    match numbers::parse(word.as_str().as_bytes()) {
-        Some(number) => Ok(number),
-        None => Err(Mistake::NoNumber { option, word }),
-    }
+    numbers::parse(word.as_str().as_bytes()).ok_or(Mistake::NoNumber { option, word })
 }
 
 impl fmt::Display for Mistake {
@@ -78,10 +109,10 @@ impl fmt::Display for Mistake {
             Mistake::Memory => f.write_str("not enough memory"),
             Mistake::Unknown { word, nearest } => {
                 write!(f, "no option is called `{word}`")?;
-                match nearest {
-                    Some(nearest) => write!(f, "; did you mean `{nearest}`?"),
-                    None => Ok(()),
+                if let Some(nearest) = nearest {
+                    write!(f, "; did you mean `{nearest}`?")?;
                 }
+                Ok(())
             }
             Mistake::SecondFile(word) => write!(
                 f,

@@ -1,9 +1,10 @@
 // Positions by their names, or by their numbers where they have none.
-ghost use Rattle.std.specs.Prelude.{◌≡◌, map, IfOk, string_bytes};
-ghost use Rattle.console.specs.Names.{name_text, FirstIs, FoundIs};
+ghost use Rattle.std.specs.Prelude.{◌≡◌, map, position, IfOk, string_bytes};
+ghost use Rattle.std.specs.Str.{bytes_eq};
+ghost use Rattle.console.specs.Names.{name_text, FoundIs};
 
 use crate::messages::Problem;
-use crate::nearness::is_nearly;
+use crate::nearness::nearest;
 use crate::numbers;
 use std::alloc::{AllocError, Global};
 
@@ -17,14 +18,9 @@ pub struct Unknown {
 
 // The first position that has a name.
 fn find_name(names: &[String], word: &str) -> Option<usize>
-    ensures { FirstIs (map string_bytes names.now) word.now result }
+    ensures { result ≡ position (λ name. bytes_eq (string_bytes name) word.now) names.now }
 {
-    for (place, name) in names.iter().enumerate() {
-        if name.as_str() == word {
-            return Some(place);
-        }
-    }
-    None
+    names.iter().position(|name| name.as_str() == word)
 }
 
 // The position that has a name; where none has it, the word may be the number of one.
@@ -35,7 +31,7 @@ pub fn find(names: &[String], count: usize, word: &str) -> Option<usize>
         return Some(position);
     }
     let number = numbers::parse(word.as_bytes())? as usize;
-    if number < count { Some(number) } else { None }
+    (number < count).then_some(number)
 }
 
 // The name of a position: its number where it has no name.
@@ -46,16 +42,6 @@ pub fn name_of(heap: Global, names: &[String], position: usize) -> Result<String
         Some(name) => String::from_str(heap, name.as_str()),
         None => format!(in heap; "{position}"),
     }
-}
-
-// The first name that is nearly a word.
-fn nearest(heap: Global, names: &[String], word: &str) -> Result<Option<String>, AllocError> {
-    for name in names {
-        if is_nearly(heap, name.as_str(), word)? {
-            return Ok(Some(name.clone()?));
-        }
-    }
-    Ok(None)
 }
 
 // The names with commas between them, or the numbers where there are no names.
@@ -81,7 +67,7 @@ pub fn refuse(
 ) -> Result<Unknown, Problem> {
     Ok(Unknown {
         word: String::from_str(heap, word)?,
-        nearest: nearest(heap, names, word)?,
+        nearest: nearest(heap, names, word)?.cloned()?,
         known: list(heap, names, count)?,
     })
 }

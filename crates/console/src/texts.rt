@@ -1,16 +1,19 @@
 // A clockwork's text, as a drawing or as a row of numbers, and why it is refused.
-ghost use Rattle.automata.specs.Automata.{Automaton};
+ghost use Rattle.automata.specs.Automata as automata;
 ghost use Rattle.automata.specs.Rows.{Reads};
-ghost use Rattle.std.specs.Prelude.{IfOk, string_bytes};
+ghost use Rattle.rows.specs.Views.{Views};
+ghost use Rattle.std.specs.Prelude.{◌≡◌, IfOk, string_bytes};
 ghost use Rattle.drawing.specs.Drawn.{DrawnAs};
 
 use crate::messages::{Expected, Found, Problem};
 use crate::numbers;
 use crate::numbers::Mistake;
-use clockworks::rows::Unfit;
 use drawing::Drawing;
+use drawing::errors::Place;
 use rows::reader;
+use rows::reader::MOST_WORDS;
 use rows::refusals::Rule;
+use rows::views::Automaton;
 use std::alloc::{AllocError, Global};
 
 // How a text is written.
@@ -24,38 +27,32 @@ pub enum Form {
 const MOST_SHOWN: usize = 40;
 
 fn can_be_shown(word: &[u8]) -> bool {
-    for byte in word {
-        if *byte < b'!' || *byte > b'~' {
-            return false;
-        }
-    }
-    word.len() <= MOST_SHOWN
+    word.len() <= MOST_SHOWN && word.iter().all(|byte| byte.is_ascii_graphic())
 }
 
 fn show_word(heap: Global, word: &[u8]) -> Result<Found, AllocError> {
     if word.is_empty() {
         return Ok(Found::TextEnd);
     }
-    if !can_be_shown(word) {
-        return Ok(Found::Other);
-    }
     match std::str::from_utf8(word) {
-        Ok(text) => Ok(Found::Word(String::from_str(heap, text)?)),
-        Err(_) => Ok(Found::Other),
+        Ok(text) if can_be_shown(word) => Ok(Found::Word(String::from_str(heap, text)?)),
+        _ => Ok(Found::Other),
     }
 }
 
 // Something else was expected in place of a word, or at the end of the text where there is no such word.
-fn refuse(heap: Global, bytes: &[u8], word: usize, expected: Expected) -> Problem {
-    let (start, end) = numbers::find_word(bytes, word);
-    match show_word(heap, &bytes[start..end]) {
-        Ok(found) => Problem::Row {
-            place: numbers::place_after(bytes, start),
-            found,
-            expected,
-        },
-        Err(_) => Problem::Memory,
-    }
+fn refuse(
+    heap: Global,
+    bytes: &[u8],
+    word: usize,
+    expected: Expected,
+) -> Result<Problem, AllocError> {
+    let (start, stop) = numbers::find_word(bytes, word);
+    Ok(Problem::Row {
+        place: Place::after(bytes, start),
+        found: show_word(heap, &bytes[start..stop])?,
+        expected,
+    })
 }
 
 // What a rule asks for.
@@ -79,19 +76,21 @@ fn expect(rule: Rule, row: &[u32]) -> Expected {
 
 // A row that stands in a text, if it is a clockwork's. It has no names.
 fn read_row(heap: Global, bytes: &[u8]) -> Result<Drawing, Problem>
-    ensures { IfOk result (λ d. (a : Automaton) × Reads d.row.items a) }
+    ensures { IfOk result (λ d. (a : automata.Automaton) × Reads d.row.items a) }
 {
     let row = match numbers::read(heap, bytes) {
         Ok(row) => row,
         Err(Mistake::Memory) => return Err(Problem::Memory),
-        Err(Mistake::NoNumber(word)) => return Err(refuse(heap, bytes, word, Expected::Number)),
+        Err(Mistake::NoNumber(word)) => {
+            return Err(refuse(heap, bytes, word, Expected::Number)?);
+        }
         Err(Mistake::TooMany) => {
-            return Err(refuse(heap, bytes, reader::MOST_WORDS, Expected::FewNumbers));
+            return Err(refuse(heap, bytes, MOST_WORDS, Expected::FewNumbers)?);
         }
     };
     if let Err(refusal) = reader::read(row.as_slice()) {
         let expected = expect(refusal.rule, row.as_slice());
-        return Err(refuse(heap, bytes, refusal.word, expected));
+        return Err(refuse(heap, bytes, refusal.word, expected)?);
     }
     Ok(Drawing {
         row,
@@ -100,16 +99,24 @@ fn read_row(heap: Global, bytes: &[u8]) -> Result<Drawing, Problem>
     })
 }
 
+// The clockwork of a row.
+pub fn view(row: &[u32]) -> Automaton<'_>
+    requires { (a : automata.Automaton) × Reads row.now a }
+    ensures { (result.row.now ≡ row.now) × ((a : automata.Automaton) × Views result a) }
+{
+    let Ok(automaton) = reader::read(row) else {
+        unreachable!()
+    };
+    automaton
+}
+
 // The row of the clockwork that a text is of, with the names of its clocks and positions.
 pub fn read(heap: Global, form: Form, bytes: &[u8]) -> Result<Drawing, Problem>
-    ensures { IfOk result (λ d. (a : Automaton) × Reads d.row.items a) }
+    ensures { IfOk result (λ d. (a : automata.Automaton) × Reads d.row.items a) }
 {
     match form {
         Form::Row => read_row(heap, bytes),
-        Form::Drawing => match drawing::read(heap, bytes) {
-            Ok(drawing) => Ok(drawing),
-            Err(refusal) => Err(Problem::Drawing(refusal)),
-        },
+        Form::Drawing => Ok(drawing::read(heap, bytes)?),
     }
 }
 
@@ -117,9 +124,5 @@ pub fn read(heap: Global, form: Form, bytes: &[u8]) -> Result<Drawing, Problem>
 pub fn draw(heap: Global, row: &[u32]) -> Result<String, Problem>
     ensures { IfOk result (λ text. DrawnAs row.now (string_bytes text)) }
 {
-    match drawing::draw(heap, row) {
-        Ok(text) => Ok(text),
-        Err(Unfit::Memory) => Err(Problem::Memory),
-        Err(unfit) => Err(Problem::Unfit(unfit)),
-    }
+    Ok(drawing::draw(heap, row)?)
 }

@@ -1,3 +1,4 @@
--- Lemmas on the text of a row, and on the sizes of parts.
+-- Lemmas on the text of a row, on the sizes of parts, and on words.
 pub mod Lines
 pub mod Sizes
+pub mod Cuts

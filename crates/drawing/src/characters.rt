@@ -4,22 +4,20 @@ use crate::errors::Expected;
 use crate::mistakes::Mistake;
 use crate::words::Word;
 
-// Each word has a character or more, so that the turns suffice.
-fn check_line(number: usize, line: &str) -> Result<(), Mistake> {
-    let mut cursor = Cursor::new(number, line);
-    for _ in 0..line.len() {
-        match cursor.word() {
-            Word::Stray(_) => return Err(cursor.mistake(Expected::Character)),
-            Word::End => break,
-            _ => cursor.advance(),
+fn check_line(index: usize, line: &str) -> Result<(), Mistake> {
+    let mut cursor = Cursor::new(index, line);
+    while !cursor.at_end() {
+        if let Word::Stray(_) = cursor.word() {
+            return Err(cursor.mistake(Expected::Character));
         }
+        cursor.advance();
     }
     Ok(())
 }
 
 pub fn check_all(text: &str) -> Result<(), Mistake> {
     for (index, line) in text.lines().enumerate() {
-        check_line(index.saturating_add(1), line)?;
+        check_line(index, line)?;
     }
     Ok(())
 }

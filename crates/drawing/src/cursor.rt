@@ -1,5 +1,5 @@
 // A reader's place in a line: it takes the next word if that is what may stand there, and else it is a mistake.
-ghost use Rattle.std.specs.Prelude.{◌≡◌, true, false, T, Some, MatchResult};
+ghost use Rattle.std.specs.Prelude.{◌≡◌, ◌<◌, length, true, false, T, Some, MatchResult};
 ghost use Rattle.std.specs.Option.{option_map};
 ghost use Rattle.drawing.specs.Words.{text_part, sign_part, is_end};
 ghost use Rattle.drawing.specs.declared.mistakes.Mistake.TheVariants.{Word as Mistaken};
@@ -8,7 +8,7 @@ use crate::errors::{Expected, Place, Sign};
 use crate::mistakes::Mistake;
 use crate::words::{Cut, Word, cut_word};
 
-// The next word with its place, and what of the line is past it.
+// The next word with its place, and what of the line is past it. No iterator: the word is looked at more than once before it is taken.
 #[derive(Drop)]
 pub struct Cursor<'a> {
     word: Word<'a>,
@@ -19,12 +19,12 @@ pub struct Cursor<'a> {
 }
 
 impl<'a> Cursor<'a> {
-    // A cursor at the first word of a line.
-    pub fn new(number: usize, line: &'a str) -> Cursor<'a> {
+    // A cursor at the first word of the line with this index, from 0.
+    pub fn new(index: usize, line: &'a str) -> Cursor<'a> {
         let mut cursor = Cursor {
             word: Word::End,
             place: Place {
-                line: number,
+                line: index.saturating_add(1),
                 column: 1,
             },
             rest: line,
@@ -66,7 +66,9 @@ impl<'a> Cursor<'a> {
     }
 
     // Goes on to the next word. A blank is one byte.
-    pub fn advance(&mut self) {
+    pub fn advance(&mut self)
+        ensures { is_end self.new.word ≡ false → length self.new.rest.now < length self.old.rest.now }
+    {
         let text = self.rest.trim_start_matches([' ', '\t']);
         let blanks = self.rest.len().saturating_sub(text.len());
         let Cut { word, rest } = cut_word(text);
@@ -79,10 +81,18 @@ impl<'a> Cursor<'a> {
     pub fn at_end(&self) -> bool
         ensures { result ≡ is_end self.now.word }
     {
-        match self.word {
-            Word::End => true,
-            _ => false,
+        matches!(self.word, Word::End)
+    }
+
+    // Goes on if the word that is asked for is here.
+    fn take_if(&mut self, here: bool) -> bool
+        ensures here { result ≡ here }
+        ensures left { result ≡ false → self.new ≡ self.old }
+    {
+        if here {
+            self.advance();
         }
+        here
     }
 
     // Takes the sign, if it is the next word.
@@ -91,10 +101,7 @@ impl<'a> Cursor<'a> {
         ensures left { result ≡ false → self.new ≡ self.old }
     {
         let here = self.sign() == Some(sign);
-        if here {
-            self.advance();
-        }
-        here
+        self.take_if(here)
     }
 
     // Takes the word of the language, if it is the next word.
@@ -103,10 +110,7 @@ impl<'a> Cursor<'a> {
         ensures left { result ≡ false → self.new ≡ self.old }
     {
         let here = self.text() == Some(word);
-        if here {
-            self.advance();
-        }
-        here
+        self.take_if(here)
     }
 
     // Something else was expected here.
@@ -119,10 +123,9 @@ impl<'a> Cursor<'a> {
     pub fn expect_end(&self, expected: Expected) -> Result<(), Mistake>
         ensures { MatchResult result (λ _. is_end self.now.word ≡ true) (λ m. m ≡ Mistaken self.now.place expected) }
     {
-        if self.at_end() {
-            Ok(())
-        } else {
-            Err(self.mistake(expected))
+        if !self.at_end() {
+            return Err(self.mistake(expected));
         }
+        Ok(())
     }
 }

@@ -4,10 +4,11 @@ ghost use Rattle.drawing.specs.Words.{text_of};
 ghost use Rattle.drawing.specs.Places.{newline_count, last_line_len as last_line_len_lem};
 
 use clockworks::rows::Unfit;
+use std::error::Error;
 use std::fmt;
 
 // Lines and columns count from 1, columns in characters.
-#[derive(Clone, Copy, Debug)]
+#[derive(Clone, Copy, Debug, PartialEq, Eq)]
 pub struct Place {
     pub line: usize,
     pub column: usize,
@@ -39,7 +40,7 @@ impl Place {
     }
 }
 
-#[derive(Debug, Drop)]
+#[derive(Debug, PartialEq, Eq, Drop)]
 pub enum Found {
     Text(String),
     Sign(Sign),
@@ -51,7 +52,7 @@ pub enum Found {
 }
 
 // The signs of a drawing.
-#[derive(Clone, Copy, Debug, PartialEq)]
+#[derive(Clone, Copy, Debug, PartialEq, Eq)]
 pub enum Sign {
     Colon,
     Comma,
@@ -80,7 +81,7 @@ impl Sign {
     }
 }
 
-#[derive(Clone, Copy, Debug)]
+#[derive(Clone, Copy, Debug, PartialEq, Eq)]
 pub enum Expected {
     Utf8,
     Character,
@@ -106,7 +107,7 @@ pub enum Expected {
     Row,
 }
 
-#[derive(Debug, Drop)]
+#[derive(Debug, PartialEq, Eq, Drop)]
 pub enum Refusal {
     Memory,
     Wrong {
@@ -140,32 +141,32 @@ impl fmt::Display for Found {
 
 impl fmt::Display for Expected {
     fn fmt<W: fmt::Write>(&self, f: &mut fmt::Formatter<W>) -> fmt::Result {
-        match self {
-            Expected::Utf8 => f.write_str("text in UTF-8"),
-            Expected::Character => f.write_str("a name, a number or one of : , -> <= < >= > = #"),
-            Expected::Statement => f.write_str("`clocks`, `position` or `step`"),
-            Expected::ClockName => f.write_str("a name for a clock"),
-            Expected::NewClock => f.write_str("a name that no clock has yet"),
-            Expected::FewClocks => f.write_str("at most 8 clocks"),
-            Expected::PositionName => f.write_str("a name for a position"),
-            Expected::NewPosition => f.write_str("a name that no position has yet"),
-            Expected::FewPositions => f.write_str("at most 256 positions"),
-            Expected::KnownClock => f.write_str("a clock that a line `clocks` names"),
-            Expected::KnownPosition => f.write_str("a position that a line `position` names"),
-            Expected::Relation => f.write_str("`<=`, `<`, `>=`, `>` or `=`"),
-            Expected::UpperRelation => f.write_str(
-                "`<=` or `<`, since a position bounds clocks only from above",
-            ),
-            Expected::Bound => f.write_str("a whole number from 0 to 10000"),
-            Expected::Arrow => f.write_str("`->`"),
-            Expected::AfterPosition => f.write_str("`:` or the end of the line"),
-            Expected::AfterTest => f.write_str("`,` or the end of the line"),
-            Expected::AfterTarget => f.write_str("`when`, `reset` or the end of the line"),
-            Expected::AfterGuard => f.write_str("`,`, `reset` or the end of the line"),
-            Expected::Clocks => f.write_str("a line `clocks` with a name for each clock"),
-            Expected::Positions => f.write_str("a line `position` for each position"),
-            Expected::Row => f.write_str("a clockwork that a row can hold"),
-        }
+        f.write_str(match self {
+            Expected::Utf8 => "text in UTF-8",
+            Expected::Character => "a name, a number or one of : , -> <= < >= > = #",
+            Expected::Statement => "`clocks`, `position` or `step`",
+            Expected::ClockName => "a name for a clock",
+            Expected::NewClock => "a name that no clock has yet",
+            Expected::FewClocks => "at most 8 clocks",
+            Expected::PositionName => "a name for a position",
+            Expected::NewPosition => "a name that no position has yet",
+            Expected::FewPositions => "at most 256 positions",
+            Expected::KnownClock => "a clock that a line `clocks` names",
+            Expected::KnownPosition => "a position that a line `position` names",
+            Expected::Relation => "`<=`, `<`, `>=`, `>` or `=`",
+            Expected::UpperRelation => {
+                "`<=` or `<`, since a position bounds clocks only from above"
+            }
+            Expected::Bound => "a whole number from 0 to 10000",
+            Expected::Arrow => "`->`",
+            Expected::AfterPosition => "`:` or the end of the line",
+            Expected::AfterTest => "`,` or the end of the line",
+            Expected::AfterTarget => "`when`, `reset` or the end of the line",
+            Expected::AfterGuard => "`,`, `reset` or the end of the line",
+            Expected::Clocks => "a line `clocks` with a name for each clock",
+            Expected::Positions => "a line `position` for each position",
+            Expected::Row => "a clockwork that a row can hold",
+        })
     }
 }
 
@@ -186,3 +187,5 @@ impl fmt::Display for Refusal {
         }
     }
 }
+
+impl Error for Refusal {}

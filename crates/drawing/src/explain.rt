@@ -17,13 +17,10 @@ fn found_word(heap: Global, word: Word) -> Result<Found, AllocError> {
     }
 }
 
-// The word at a column. Each word has a character or more, so that the turns suffice.
+// The word at a column.
 fn found_in_line(heap: Global, line: &str, place: Place) -> Result<Found, AllocError> {
-    let mut cursor = Cursor::new(place.line, line);
-    for _ in 0..line.len() {
-        if cursor.place().column >= place.column {
-            break;
-        }
+    let mut cursor = Cursor::new(place.line.saturating_sub(1), line);
+    while !cursor.at_end() && cursor.place().column < place.column {
         cursor.advance();
     }
     found_word(heap, cursor.word())
@@ -41,14 +38,14 @@ pub fn explain(heap: Global, text: &str, mistake: Mistake) -> Refusal
 {
     match mistake {
         Mistake::Memory => Refusal::Memory,
-        Mistake::Word(place, expected) => match found_at(heap, text, place) {
-            Ok(found) => Refusal::Wrong {
+        Mistake::Word(place, expected) => found_at(heap, text, place).map_or(
+            Refusal::Memory,
+            |found| Refusal::Wrong {
                 place,
                 found,
                 expected,
             },
-            Err(_) => Refusal::Memory,
-        },
+        ),
         Mistake::Row(place) => Refusal::Wrong {
             place,
             found: Found::Unfit(Unfit::Words),

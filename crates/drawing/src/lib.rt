@@ -33,14 +33,12 @@ pub struct Drawing {
 
 // The text, without the mark that some editors put in front of it.
 fn as_text(bytes: &[u8]) -> Result<&str, Refusal> {
-    match std::str::from_utf8(bytes) {
-        Ok(text) => Ok(text.strip_prefix('\u{feff}').unwrap_or(text)),
-        Err(error) => Err(Refusal::Wrong {
-            place: Place::after(bytes, error.valid_up_to()),
-            found: Found::Bytes,
-            expected: Expected::Utf8,
-        }),
-    }
+    let text = std::str::from_utf8(bytes).map_err(|error| Refusal::Wrong {
+        place: Place::after(bytes, error.valid_up_to()),
+        found: Found::Bytes,
+        expected: Expected::Utf8,
+    })?;
+    Ok(text.strip_prefix('\u{feff}').unwrap_or(text))
 }
 
 fn read_parts(heap: Global, text: &str) -> Result<(Names, Clockwork), Mistake> {
@@ -48,24 +46,21 @@ fn read_parts(heap: Global, text: &str) -> Result<(Names, Clockwork), Mistake> {
     let names = names::declare_all(heap, text)?;
     let named = !names.clocks.is_empty() && !names.positions.is_empty();
     match reader::read_all(heap, &names, text) {
-        Ok(clockwork) => Ok((names, clockwork)),
-        Err(mistake) => {
-            let Mistake::Row(_) = mistake else {
-                return Err(mistake);
-            };
-            if named {
-                return Err(mistake);
-            }
-            // That no clock or no position is named is told first.
-            Ok((
-                names,
-                Clockwork {
-                    clocks: 0,
-                    positions: Vec::new(heap),
-                    steps: Vec::new(heap),
-                },
-            ))
-        }
+        // That no clock or no position is named is told first.
+        Err(Mistake::Row(_)) if !named => Ok((names, Clockwork::new(heap, 0))),
+        read => Ok((names, read?)),
+    }
+}
+
+// Why there is no row of what was read: the place is the end of the text.
+fn refuse_row(place: Place, unfit: Unfit) -> Refusal {
+    match unfit {
+        Unfit::Memory => Refusal::Memory,
+        unfit => Refusal::Wrong {
+            place,
+            found: Found::Unfit(unfit),
+            expected: Expected::Row,
+        },
     }
 }
 
@@ -79,34 +74,24 @@ fn finish(heap: Global, end: Place, names: Names, clockwork: &Clockwork) -> Resu
     } else {
         Expected::Positions
     };
-    if clocks.is_empty() || positions.is_empty() {
+    // The lines that gave the names gave the parts, so that their numbers never differ.
+    if clocks.is_empty()
+        || positions.is_empty()
+        || clocks.len() != clockwork.clocks as usize
+        || positions.len() != clockwork.positions.len()
+    {
         return Err(Refusal::Wrong {
             place: end,
             found: Found::TextEnd,
             expected,
         });
     }
-    // The lines that gave the names gave the parts, so this is never so.
-    if clocks.len() != clockwork.clocks as usize || positions.len() != clockwork.positions.len() {
-        return Err(Refusal::Wrong {
-            place: end,
-            found: Found::TextEnd,
-            expected,
-        });
-    }
-    match write_row(heap, clockwork) {
-        Ok(row) => Ok(Drawing {
-            row,
-            clocks,
-            positions,
-        }),
-        Err(Unfit::Memory) => Err(Refusal::Memory),
-        Err(unfit) => Err(Refusal::Wrong {
-            place: end,
-            found: Found::Unfit(unfit),
-            expected: Expected::Row,
-        }),
-    }
+    let row = write_row(heap, clockwork).map_err(|unfit| refuse_row(end, unfit))?;
+    Ok(Drawing {
+        row,
+        clocks,
+        positions,
+    })
 }
 
 // Reads a drawing. What it gives is the writing of an automaton, with a name for each of its clocks and positions.
@@ -115,12 +100,18 @@ pub fn read(heap: Global, bytes: &[u8]) -> Result<Drawing, Refusal>
 {
     let text = as_text(bytes)?;
     let end = Place::after(bytes, bytes.len());
-    match read_parts(heap, text) {
-        Ok((names, clockwork)) => finish(heap, end, names, &clockwork),
-        // A row that is too long is no mistake of one part: its place is the end of the text.
-        Err(Mistake::Row(_)) => Err(explain::explain(heap, text, Mistake::Row(end))),
-        Err(mistake) => Err(explain::explain(heap, text, mistake)),
-    }
+    let (names, clockwork) = read_parts(heap, text).map_err(|mistake| {
+        explain::explain(
+            heap,
+            text,
+            match mistake {
+                // A row that is too long is no mistake of one part: its place is the end of the text.
+                Mistake::Row(_) => Mistake::Row(end),
+                mistake => mistake,
+            },
+        )
+    })?;
+    finish(heap, end, names, &clockwork)
 }
 
 // Draws a row: refuses one that is not the writing of an automaton. Tests show, and no proof, that to read the text gives the row again.

@@ -2,7 +2,7 @@
 use crate::errors::{Expected, Place};
 use std::alloc::{AllocError, AllocFailed};
 
-#[derive(Clone, Copy)]
+#[derive(Clone, Copy, Debug, PartialEq, Eq)]
 pub enum Mistake {
     Memory,
     // The word at the place, or the end of its line where there is none.

@@ -1,5 +1,5 @@
 // A drawing is read line by line into the parts of a clockwork.
-ghost use Rattle.std.specs.Prelude.{◌≡◌, ◌+◌, ◌*◌, ◌≤◌, ◌++◌, length, IfOk, Some, None, vec_len, MatchResult, OnOk};
+ghost use Rattle.std.specs.Prelude.{◌≡◌, ◌+◌, ◌*◌, ◌<◌, ◌≤◌, ◌++◌, length, IfOk, Some, None, vec_len, MatchResult, OnOk};
 ghost use Rattle.automata.specs.Rows.{write};
 ghost use Rattle.clockworks.specs.Meaning.{automaton};
 ghost use Rattle.drawing.specs.Words.{sign_part};
@@ -40,12 +40,9 @@ enum Comparison {
 
 // Takes the next word as a name that is there, and gives its number.
 fn read_name(names: &[String], cursor: &mut Cursor, expected: Expected) -> Result<u32, Mistake> {
-    let Some(text) = cursor.text() else {
-        return Err(cursor.mistake(expected));
-    };
-    let Some(number) = find(names, text) else {
-        return Err(cursor.mistake(expected));
-    };
+    let mistake = cursor.mistake(expected);
+    let text = cursor.text().ok_or(mistake)?;
+    let number = find(names, text).ok_or(mistake)?;
     cursor.advance();
     Ok(number)
 }
@@ -69,14 +66,13 @@ fn read_comparison(cursor: &mut Cursor, owner: Owner) -> Result<Comparison, Mist
 fn read_bound(cursor: &mut Cursor) -> Result<u32, Mistake>
     ensures { IfOk result (λ bound. bound ≤ 10000) }
 {
-    let Some(text) = cursor.text() else {
-        return Err(cursor.mistake(Expected::Bound));
-    };
+    let mistake = cursor.mistake(Expected::Bound);
+    let text = cursor.text().ok_or(mistake)?;
     let Ok(bound) = text.parse::<u32>() else {
-        return Err(cursor.mistake(Expected::Bound));
+        return Err(mistake);
     };
     if bound > MOST_BOUND {
-        return Err(cursor.mistake(Expected::Bound));
+        return Err(mistake);
     }
     cursor.advance();
     Ok(bound)
@@ -123,178 +119,172 @@ fn push_test(
     Ok(())
 }
 
-fn read_test(
-    clocks: &[String],
-    cursor: &mut Cursor,
-    owner: Owner,
-    room: &mut Room,
-    tests: &mut Vec<Test>,
-) -> Result<(), Mistake>
-    ensures { OnOk result (room.new.left + 3 * vec_len tests.new ≡ room.old.left + 3 * vec_len tests.old) }
-{
-    let start = cursor.place();
-    let clock = Clock(read_name(clocks, cursor, Expected::KnownClock)?);
-    let comparison = read_comparison(cursor, owner)?;
-    let bound = read_bound(cursor)?;
-    room.take(numbers_of(comparison), start)?;
-    push_test(tests, clock, comparison, bound)
+// Where a line is read, and the room of the row for what comes.
+#[derive(Drop)]
+struct Reader<'a> {
+    heap: Global,
+    names: &'a Names,
+    cursor: Cursor<'a>,
+    room: Room,
 }
 
-// Tests with commas between them. Each takes some of the room, so that the turns suffice.
-fn read_tests(
-    heap: Global,
-    clocks: &[String],
-    cursor: &mut Cursor,
-    owner: Owner,
-    room: &mut Room,
-) -> Result<Vec<Test>, Mistake>
-    ensures { IfOk result (λ tests. room.new.left + 3 * vec_len tests ≡ room.old.left) }
-{
-    let mut tests = Vec::new(heap);
-    for _ in 0..=room.left() {
-        read_test(clocks, cursor, owner, room, &mut tests)?;
-        if !cursor.take_sign(Sign::Comma) {
-            break;
-        }
+impl Reader<'_> {
+    fn test(&mut self, owner: Owner, tests: &mut Vec<Test>) -> Result<(), Mistake>
+        ensures room { OnOk result (self.new.room.left + 3 * vec_len tests.new ≡ self.old.room.left + 3 * vec_len tests.old) }
+        ensures more { OnOk result (vec_len tests.old < vec_len tests.new) }
+    {
+        let start = self.cursor.place();
+        let clock = read_name(
+            self.names.clocks.as_slice(),
+            &mut self.cursor,
+            Expected::KnownClock,
+        )?;
+        let comparison = read_comparison(&mut self.cursor, owner)?;
+        let bound = read_bound(&mut self.cursor)?;
+        self.room.take(numbers_of(comparison), start)?;
+        push_test(tests, Clock(clock), comparison, bound)
     }
-    Ok(tests)
-}
 
-// The tests of a position, if it has any.
-fn read_invariant(
-    heap: Global,
-    clocks: &[String],
-    cursor: &mut Cursor,
-    room: &mut Room,
-) -> Result<Vec<Test>, Mistake>
-    ensures { IfOk result (λ tests. room.new.left + 3 * vec_len tests ≡ room.old.left) }
-{
-    if cursor.take_sign(Sign::Colon) {
-        read_tests(heap, clocks, cursor, Owner::Position, room)
-    } else {
-        cursor.expect_end(Expected::AfterPosition)?;
-        Ok(Vec::new(heap))
-    }
-}
-
-// The tests of a step, if it has any.
-fn read_guard(
-    heap: Global,
-    clocks: &[String],
-    cursor: &mut Cursor,
-    room: &mut Room,
-) -> Result<Vec<Test>, Mistake>
-    ensures { IfOk result (λ tests. room.new.left + 3 * vec_len tests ≡ room.old.left) }
-{
-    if cursor.take_word("when") {
-        read_tests(heap, clocks, cursor, Owner::Step, room)
-    } else if cursor.text() == Some("reset") {
-        Ok(Vec::new(heap))
-    } else {
-        cursor.expect_end(Expected::AfterTarget)?;
-        Ok(Vec::new(heap))
-    }
-}
-
-// The clocks that a step sets back, if any: blanks part them, and a comma may. Each takes some of the room, so that the turns suffice.
-fn read_resets(
-    heap: Global,
-    clocks: &[String],
-    cursor: &mut Cursor,
-    room: &mut Room,
-) -> Result<Vec<u32>, Mistake>
-    ensures { IfOk result (λ resets. room.new.left + vec_len resets ≡ room.old.left) }
-{
-    let mut resets = Vec::new(heap);
-    if cursor.take_word("reset") {
-        for _ in 0..=room.left() {
-            let start = cursor.place();
-            let clock = read_name(clocks, cursor, Expected::KnownClock)?;
-            room.take(RESET_NUMBERS, start)?;
-            resets.push(clock)?;
-            if !cursor.take_sign(Sign::Comma) && cursor.at_end() {
-                break;
+    // Tests with commas between them.
+    fn tests(&mut self, owner: Owner) -> Result<Vec<Test>, Mistake>
+        ensures { IfOk result (λ tests. self.new.room.left + 3 * vec_len tests ≡ self.old.room.left) }
+    {
+        let mut tests = Vec::new(self.heap);
+        loop {
+            self.test(owner, &mut tests)?;
+            if !self.cursor.take_sign(Sign::Comma) {
+                return Ok(tests);
             }
         }
     }
-    Ok(resets)
-}
 
-fn read_position(
-    heap: Global,
-    names: &Names,
-    cursor: &mut Cursor,
-    room: &mut Room,
-) -> Result<Position, Mistake>
-    ensures { IfOk result (λ position. room.new.left + position_size position ≡ room.old.left + 1) }
-{
-    let _number = read_name(names.positions.as_slice(), cursor, Expected::PositionName)?;
-    let tests = read_invariant(heap, names.clocks.as_slice(), cursor, room)?;
-    cursor.expect_end(Expected::AfterTest)?;
-    Ok(Position { tests })
-}
-
-fn read_step(
-    heap: Global,
-    names: &Names,
-    cursor: &mut Cursor,
-    room: &mut Room,
-) -> Result<Step, Mistake>
-    ensures { IfOk result (λ step. room.new.left + step_size step ≡ room.old.left + 4) }
-{
-    let source = read_name(names.positions.as_slice(), cursor, Expected::KnownPosition)?;
-    if !cursor.take_sign(Sign::Arrow) {
-        return Err(cursor.mistake(Expected::Arrow));
+    // The tests of a position, if it has any.
+    fn invariant(&mut self) -> Result<Vec<Test>, Mistake>
+        ensures { IfOk result (λ tests. self.new.room.left + 3 * vec_len tests ≡ self.old.room.left) }
+    {
+        if self.cursor.take_sign(Sign::Colon) {
+            return self.tests(Owner::Position);
+        }
+        self.cursor.expect_end(Expected::AfterPosition)?;
+        Ok(Vec::new(self.heap))
     }
-    let target = read_name(names.positions.as_slice(), cursor, Expected::KnownPosition)?;
-    let tests = read_guard(heap, names.clocks.as_slice(), cursor, room)?;
-    let resets = read_resets(heap, names.clocks.as_slice(), cursor, room)?;
-    cursor.expect_end(Expected::AfterGuard)?;
-    Ok(Step {
-        source,
-        target,
-        tests,
-        resets,
-    })
-}
 
-fn read_line(
-    heap: Global,
-    names: &Names,
-    cursor: &mut Cursor,
-    room: &mut Room,
-    clockwork: &mut Clockwork,
-) -> Result<(), Mistake>
-    ensures { OnOk result (room.new.left + parts_size clockwork.new ≡ room.old.left + parts_size clockwork.old) }
-{
-    let start = cursor.place();
-    if cursor.take_word("position") {
-        room.take(POSITION_NUMBERS, start)?;
-        clockwork
-            .positions
-            .push(read_position(heap, names, cursor, room)?)?;
-    } else if cursor.take_word("step") {
-        room.take(STEP_NUMBERS, start)?;
-        clockwork.steps.push(read_step(heap, names, cursor, room)?)?;
-    } else if !cursor.take_word("clocks") {
-        cursor.expect_end(Expected::Statement)?;
+    // The tests of a step, if it has any.
+    fn guard(&mut self) -> Result<Vec<Test>, Mistake>
+        ensures { IfOk result (λ tests. self.new.room.left + 3 * vec_len tests ≡ self.old.room.left) }
+    {
+        if self.cursor.take_word("when") {
+            return self.tests(Owner::Step);
+        }
+        if self.cursor.text() != Some("reset") {
+            self.cursor.expect_end(Expected::AfterTarget)?;
+        }
+        Ok(Vec::new(self.heap))
     }
-    Ok(())
+
+    // The clocks that a step sets back, if any: blanks part them, and a comma may.
+    fn resets(&mut self) -> Result<Vec<u32>, Mistake>
+        ensures { IfOk result (λ resets. self.new.room.left + vec_len resets ≡ self.old.room.left) }
+    {
+        let mut resets = Vec::new(self.heap);
+        if !self.cursor.take_word("reset") {
+            return Ok(resets);
+        }
+        loop {
+            let start = self.cursor.place();
+            let clock = read_name(
+                self.names.clocks.as_slice(),
+                &mut self.cursor,
+                Expected::KnownClock,
+            )?;
+            self.room.take(RESET_NUMBERS, start)?;
+            resets.push(clock)?;
+            if !self.cursor.take_sign(Sign::Comma) && self.cursor.at_end() {
+                return Ok(resets);
+            }
+        }
+    }
+
+    fn position(&mut self) -> Result<Position, Mistake>
+        ensures { IfOk result (λ position. self.new.room.left + position_size position ≡ self.old.room.left + 1) }
+    {
+        let _number = read_name(
+            self.names.positions.as_slice(),
+            &mut self.cursor,
+            Expected::PositionName,
+        )?;
+        let tests = self.invariant()?;
+        self.cursor.expect_end(Expected::AfterTest)?;
+        Ok(Position { tests })
+    }
+
+    fn step(&mut self) -> Result<Step, Mistake>
+        ensures { IfOk result (λ step. self.new.room.left + step_size step ≡ self.old.room.left + 4) }
+    {
+        let positions = self.names.positions.as_slice();
+        let source = read_name(positions, &mut self.cursor, Expected::KnownPosition)?;
+        if !self.cursor.take_sign(Sign::Arrow) {
+            return Err(self.cursor.mistake(Expected::Arrow));
+        }
+        let target = read_name(positions, &mut self.cursor, Expected::KnownPosition)?;
+        let tests = self.guard()?;
+        let resets = self.resets()?;
+        self.cursor.expect_end(Expected::AfterGuard)?;
+        Ok(Step {
+            source,
+            target,
+            tests,
+            resets,
+        })
+    }
+
+    fn line(&mut self, clockwork: &mut Clockwork) -> Result<(), Mistake>
+        ensures { OnOk result (self.new.room.left + parts_size clockwork.new ≡ self.old.room.left + parts_size clockwork.old) }
+    {
+        let start = self.cursor.place();
+        if self.cursor.take_word("position") {
+            self.room.take(POSITION_NUMBERS, start)?;
+            clockwork.positions.push(self.position()?)?;
+        } else if self.cursor.take_word("step") {
+            self.room.take(STEP_NUMBERS, start)?;
+            clockwork.steps.push(self.step()?)?;
+        } else if !self.cursor.take_word("clocks") {
+            self.cursor.expect_end(Expected::Statement)?;
+        }
+        Ok(())
+    }
 }
 
 // A mistake in a line of the text, if there is one, however many numbers its parts have.
 fn check_lines(heap: Global, names: &Names, text: &str) -> Result<(), Mistake> {
     for (index, line) in text.lines().enumerate() {
-        let mut cursor = Cursor::new(index.saturating_add(1), line);
-        let mut room = Room::boundless();
-        let mut parts = Clockwork {
-            clocks: 0,
-            positions: Vec::new(heap),
-            steps: Vec::new(heap),
+        let mut reader = Reader {
+            heap,
+            names,
+            cursor: Cursor::new(index, line),
+            room: Room::boundless(),
         };
-        read_line(heap, names, &mut cursor, &mut room, &mut parts)?;
+        reader.line(&mut Clockwork::new(heap, 0))?;
     }
     Ok(())
+}
+
+fn read_lines(heap: Global, names: &Names, text: &str) -> Result<Clockwork, Mistake>
+    ensures { IfOk result (λ clockwork. length (write (automaton clockwork)) ≤ 16384) }
+{
+    let mut room = Room::new();
+    let mut clockwork = Clockwork::new(heap, names.clocks.len().min(u32::MAX as usize) as u32);
+    for (index, line) in text.lines().enumerate() {
+        let mut reader = Reader {
+            heap,
+            names,
+            cursor: Cursor::new(index, line),
+            room,
+        };
+        reader.line(&mut clockwork)?;
+        room = reader.room;
+    }
+    Ok(clockwork)
 }
 
 // The parts of the clockwork that the text draws. Its clocks and positions are numbered as in `names`. That they have too many
@@ -302,21 +292,9 @@ fn check_lines(heap: Global, names: &Names, text: &str) -> Result<(), Mistake> {
 pub fn read_all(heap: Global, names: &Names, text: &str) -> Result<Clockwork, Mistake>
     ensures { IfOk result (λ clockwork. length (write (automaton clockwork)) ≤ 16384) }
 {
-    let mut room = Room::new();
-    let mut clockwork = Clockwork {
-        clocks: names.clocks.len().min(u32::MAX as usize) as u32,
-        positions: Vec::new(heap),
-        steps: Vec::new(heap),
-    };
-    for (index, line) in text.lines().enumerate() {
-        let mut cursor = Cursor::new(index.saturating_add(1), line);
-        let Err(mistake) = read_line(heap, names, &mut cursor, &mut room, &mut clockwork) else {
-            continue;
-        };
-        if let Mistake::Row(_) = mistake {
-            check_lines(heap, names, text)?;
-        }
-        return Err(mistake);
+    let read = read_lines(heap, names, text);
+    if let Err(Mistake::Row(_)) = &read {
+        check_lines(heap, names, text)?;
     }
-    Ok(clockwork)
+    read
 }

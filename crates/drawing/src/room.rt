@@ -28,12 +28,6 @@ impl Room {
         Room { left: usize::MAX }
     }
 
-    pub fn left(&self) -> usize
-        ensures { result ≡ self.now.left }
-    {
-        self.left
-    }
-
     // Takes the room of the part at the place: if there is too little, that is a mistake, and nothing is taken.
     pub fn take(&mut self, numbers: usize, place: Place) -> Result<(), Mistake>
         ensures { MatchResult result (λ _. self.new.left + numbers ≡ self.old.left) (λ m. (self.old.left < numbers) × (self.new.left ≡ self.old.left) × (m ≡ Row place)) }

@@ -50,28 +50,20 @@ fn belongs_to_text(c: char) -> bool {
 
 // The name or number that a text begins with ends where another character stands, or an arrow, so that no name takes its `-`.
 fn text_len(text: &str) -> usize {
-    for (at, c) in text.char_indices() {
-        let arrow = match text.get(at..) {
-            Some(rest) => rest.starts_with("->"),
-            None => false,
-        };
-        if arrow || !belongs_to_text(c) {
-            return at;
-        }
-    }
-    text.len()
+    text.char_indices()
+        .find(|(at, c)| {
+            !belongs_to_text(*c) || text.get(*at..).is_some_and(|rest| rest.starts_with("->"))
+        })
+        .map_or(text.len(), |(at, _)| at)
 }
 
 // The sign that a text begins with, and what is past it.
 fn cut_sign(text: &str) -> Option<(Sign, &str)>
     ensures { IfSome result (λ x. text.now ≡ text_of x.0 ++ x.1.now) }
 {
-    for sign in SIGNS {
-        if let Some(rest) = text.strip_prefix(sign.text()) {
-            return Some((sign, rest));
-        }
-    }
-    None
+    SIGNS
+        .into_iter()
+        .find_map(|sign| Some((sign, text.strip_prefix(sign.text())?)))
 }
 
 // The name or number that a text begins with, and what is past it.
@@ -98,18 +90,14 @@ pub fn cut_word(text: &str) -> Cut<'_>
         return Cut { word, rest };
     }
     let mut characters = text.chars();
-    let end = Cut {
-        word: Word::End,
-        rest: text,
-    };
-    let Some(c) = characters.next() else {
-        return end;
-    };
-    if c == '#' {
-        return end;
-    }
-    Cut {
-        word: Word::Stray(c),
-        rest: characters.as_str(),
+    match characters.next() {
+        None | Some('#') => Cut {
+            word: Word::End,
+            rest: text,
+        },
+        Some(c) => Cut {
+            word: Word::Stray(c),
+            rest: characters.as_str(),
+        },
     }
 }

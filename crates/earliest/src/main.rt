@@ -1,37 +1,33 @@
 // Reads a clockwork, as a drawing or as a row of numbers, and shows it.
 #![tactic(auto)]
 
-use crate::messages::{Problem, Report};
-use crate::options::{Options, Output, Request};
+use crate::options::{Options, Output};
+use console::messages::{Problem, Report};
+use console::options::{BadCall, Request};
+use console::{input, numbers, texts};
 use std::alloc::Global;
 use std::process::ExitCode;
 use std::{env, io};
 
-mod input;
-mod messages;
-mod numbers;
+mod help;
 mod options;
 mod summary;
-mod texts;
 
 // What the options ask to be printed of the clockwork in the text.
 fn answer(heap: Global, options: &Options, bytes: &[u8]) -> Result<String, Problem> {
     let drawing = texts::read(heap, options.form, bytes)?;
-    let automaton = texts::check(heap, bytes, drawing.row.as_slice())?;
+    let row = drawing.row.as_slice();
     match options.output {
-        Output::Summary => summary::write(heap, automaton, &drawing),
-        Output::Row => numbers::write(heap, drawing.row.as_slice()),
-        Output::Drawing => texts::draw(heap, drawing.row.as_slice()),
+        Output::Summary => Ok(summary::write(heap, texts::view(row), &drawing)?),
+        Output::Row => numbers::write(heap, row),
+        Output::Drawing => texts::draw(heap, row),
     }
 }
 
 fn carry_out(rt: &HostRuntime, options: &Options) -> Result<(), Problem> {
     let bytes = input::read(rt, options.source())?;
     let text = answer(rt.alloc(), options, bytes.as_slice())?;
-    match rt.print(text.as_str()) {
-        Ok(()) => Ok(()),
-        Err(error) => Err(Problem::Unwritable(error)),
-    }
+    rt.print(text.as_str()).map_err(Problem::Unwritable)
 }
 
 // Whether all went well; where it did not, the reason has been told.
@@ -44,8 +40,8 @@ fn run(rt: &HostRuntime) -> io::Result<bool> {
         }
     };
     match options::parse(words) {
-        Ok(Request::Help) => rt.print(messages::HELP)?,
-        Ok(Request::Version) => rt.print(messages::VERSION)?,
+        Ok(Request::Help) => rt.print(help::HELP)?,
+        Ok(Request::Version) => rt.print(help::VERSION)?,
         Ok(Request::Show(options)) => {
             if let Err(problem) = carry_out(rt, &options) {
                 let source = options.source();
@@ -55,7 +51,9 @@ fn run(rt: &HostRuntime) -> io::Result<bool> {
             }
         }
         Err(mistake) => {
-            eprintln!(rt; "earliest: {mistake}")?;
+            let program = help::PROGRAM;
+            let mistake = &mistake;
+            rt.eprintln(BadCall { program, mistake })?;
             return Ok(false);
         }
     }

@@ -1,14 +1,8 @@
 // The options of a call: what to read, and what to print of it.
-use crate::input::Source;
+use console::input::Source;
+use console::options::{Mistake, Request, is_option, set_file};
+use console::texts::Form;
 use std::env::Args;
-use std::fmt;
-
-// How the input is written.
-#[derive(Clone, Copy)]
-pub enum Form {
-    Drawing,
-    Row,
-}
 
 #[derive(Clone, Copy)]
 pub enum Output {
@@ -24,84 +18,40 @@ pub struct Options {
     file: Option<String>,
 }
 
-#[derive(Drop)]
-pub enum Request {
-    Help,
-    Version,
-    Show(Options),
-}
-
-// A call that cannot be understood.
-#[derive(Drop)]
-pub enum Mistake {
-    Unknown(String),
-    SecondFile(String),
-    SecondOutput(String),
-}
-
-// What an argument is.
-#[derive(Clone, Copy)]
-enum Argument {
-    Help,
-    Version,
-    Form(Form),
-    Output(Output),
-    File,
-    Unknown,
-}
-
 impl Options {
-    // Standard input where no file is named, or `-` is.
     pub fn source(&self) -> Source<'_> {
-        match &self.file {
-            Some(name) if name.as_str() != "-" => Source::File(name.as_str()),
-            _ => Source::Input,
-        }
+        Source::of(self.file.as_ref().map(|name| name.as_str()))
     }
 }
 
-// `-` alone is a file.
-fn classify(word: &str) -> Argument {
-    match word {
-        "--help" | "-h" => Argument::Help,
-        "--version" | "-V" => Argument::Version,
-        "--rows" => Argument::Form(Form::Row),
-        "--print-rows" => Argument::Output(Output::Row),
-        "--print-drawing" => Argument::Output(Output::Drawing),
-        "-" => Argument::File,
-        _ => {
-            if word.starts_with('-') {
-                Argument::Unknown
-            } else {
-                Argument::File
-            }
-        }
+// What to print: only one thing may be asked for.
+fn set_output(output: &mut Option<Output>, asked: Output, word: String) -> Result<(), Mistake> {
+    if output.is_some() {
+        return Err(Mistake::SecondOutput(word));
     }
+    *output = Some(asked);
+    Ok(())
 }
 
 // The words of the call, of which the first is the program's own name.
-pub fn parse(words: Args) -> Result<Request, Mistake> {
+pub fn parse(words: Args) -> Result<Request<Options>, Mistake> {
     let mut form = Form::Drawing;
     let mut output = None;
     let mut file = None;
     for word in words.skip(1) {
-        match classify(word.as_str()) {
-            Argument::Help => return Ok(Request::Help),
-            Argument::Version => return Ok(Request::Version),
-            Argument::Form(asked) => form = asked,
-            Argument::Output(asked) => {
-                if output.is_some() {
-                    return Err(Mistake::SecondOutput(word));
-                }
-                output = Some(asked);
+        match word.as_str() {
+            "--help" | "-h" => return Ok(Request::Help),
+            "--version" | "-V" => return Ok(Request::Version),
+            "--rows" => form = Form::Row,
+            "--print-rows" => set_output(&mut output, Output::Row, word)?,
+            "--print-drawing" => set_output(&mut output, Output::Drawing, word)?,
+            name if is_option(name) => {
+                return Err(Mistake::Unknown {
+                    word,
+                    nearest: None,
+                });
             }
-            Argument::File => {
-                if file.is_some() {
-                    return Err(Mistake::SecondFile(word));
-                }
-                file = Some(word);
-            }
-            Argument::Unknown => return Err(Mistake::Unknown(word)),
+            _ => set_file(&mut file, word)?,
         }
     }
     Ok(Request::Show(Options {
@@ -109,21 +59,4 @@ pub fn parse(words: Args) -> Result<Request, Mistake> {
         output: output.unwrap_or(Output::Summary),
         file,
     }))
-}
-
-impl fmt::Display for Mistake {
-    fn fmt<W: fmt::Write>(&self, f: &mut fmt::Formatter<W>) -> fmt::Result {
-        match self {
-            Mistake::Unknown(word) => write!(f, "no option is called `{word}`")?,
-            Mistake::SecondFile(word) => write!(
-                f,
-                "`{word}` is a second file, and only one is read"
-            )?,
-            Mistake::SecondOutput(word) => write!(
-                f,
-                "`{word}` is a second thing to print, and only one is printed"
-            )?,
-        }
-        f.write_str("; `earliest --help` shows the options")
-    }
 }

@@ -1,7 +1,6 @@
 // A clockwork in words: its clocks, its positions and its steps, by their names and numbers.
-use crate::messages::Problem;
 use drawing::Drawing;
-use rows::constraints::{Conjunction, Relation};
+use rows::constraints::Conjunction;
 use rows::edges::{Edge, Location};
 use rows::views::Automaton;
 use std::alloc::{AllocError, Global};
@@ -19,15 +18,6 @@ fn write_name(
     }
 }
 
-fn sign(relation: Relation) -> &'static str {
-    match relation {
-        Relation::AtMost => "<=",
-        Relation::Below => "<",
-        Relation::AtLeast => ">=",
-        Relation::Above => ">",
-    }
-}
-
 // The tests with commas between them, after a word.
 fn write_tests(
     text: &mut String,
@@ -35,15 +25,10 @@ fn write_tests(
     word: &str,
     tests: Conjunction<'_>,
 ) -> Result<(), AllocError> {
-    for place in 0..tests.len() {
-        let Some(test) = tests.get(place) else {
-            break;
-        };
+    for (place, test) in tests.into_iter().enumerate() {
         text.push_str(if place == 0 { word } else { ", " })?;
         write_name(text, clocks, 'x', test.clock.0)?;
-        let sign = sign(test.relation);
-        let bound = test.bound;
-        write!(text, " {sign} {bound}")?;
+        write!(text, " {} {}", test.relation, test.bound)?;
     }
     Ok(())
 }
@@ -107,7 +92,11 @@ fn write_steps(
     Ok(())
 }
 
-pub fn write(heap: Global, automaton: Automaton<'_>, names: &Drawing) -> Result<String, Problem> {
+pub fn write(
+    heap: Global,
+    automaton: Automaton<'_>,
+    names: &Drawing,
+) -> Result<String, AllocError> {
     let mut text = String::new(heap);
     write_clocks(&mut text, automaton.clocks(), names.clocks.as_slice())?;
     write_positions(&mut text, automaton, names)?;

@@ -1,14 +1,24 @@
-// Answers as text, and when two answers are the same.
-ghost use Rattle.std.specs.Prelude.{◌≡◌, MatchBool, ◌≢◌};
-
+// Answers as text.
 use clocks::answers::Asked;
 use std::fmt;
+use std::num::ParseIntError;
+use std::str::FromStr;
 
-// An answer, to be printed.
+// An answer as text: printed, and read.
 #[derive(Clone, Copy)]
-pub struct Shown(pub Asked);
+pub struct Written(pub Asked);
 
-impl fmt::Display for Shown {
+// A text that says no answer that a clockwork can have.
+#[derive(Clone, Copy)]
+pub struct NoAnswer;
+
+impl From<ParseIntError> for NoAnswer {
+    fn from(_e: ParseIntError) -> NoAnswer {
+        NoAnswer
+    }
+}
+
+impl fmt::Display for Written {
     fn fmt<W: fmt::Write>(&self, f: &mut fmt::Formatter<W>) -> fmt::Result {
         match self.0 {
             Asked::At(time) => write!(f, "at {time}"),
@@ -22,32 +32,20 @@ impl fmt::Display for Shown {
     }
 }
 
-pub fn same(a: Asked, b: Asked) -> bool
-    ensures { MatchBool result (a ≡ b) (a ≢ b) }
-{
-    match (a, b) {
-        (Asked::At(one), Asked::At(other)) => one == other,
-        (Asked::After(one), Asked::After(other)) => one == other,
-        (Asked::Never, Asked::Never) => true,
-        (Asked::NoWork, Asked::NoWork) => true,
-        (Asked::NoPlace, Asked::NoPlace) => true,
-        (Asked::Many, Asked::Many) => true,
-        (Asked::Few, Asked::Few) => true,
-        _ => false,
-    }
-}
+impl FromStr for Written {
+    type Err = NoAnswer;
 
-// The answer that a text like `after 2` says; those that no clockwork can have are not read.
-pub fn parse(text: &str) -> Option<Asked> {
-    if text == "never" {
-        return Some(Asked::Never);
+    fn from_str(text: &str) -> Result<Written, NoAnswer> {
+        if text == "never" {
+            return Ok(Written(Asked::Never));
+        }
+        if text == "many" {
+            return Ok(Written(Asked::Many));
+        }
+        if let Some(time) = text.strip_prefix("at ") {
+            return Ok(Written(Asked::At(time.parse()?)));
+        }
+        let time = text.strip_prefix("after ").ok_or(NoAnswer)?;
+        Ok(Written(Asked::After(time.parse()?)))
     }
-    if text == "many" {
-        return Some(Asked::Many);
-    }
-    if let Some(time) = text.strip_prefix("at ") {
-        return Some(Asked::At(time.parse::<u64>().ok()?));
-    }
-    let time = text.strip_prefix("after ")?;
-    Some(Asked::After(time.parse::<u64>().ok()?))
 }

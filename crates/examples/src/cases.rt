@@ -1,9 +1,10 @@
 // Rows with known answers and a known number of kinds: the answers at just that number, and at one less.
-use crate::answers::parse;
-use crate::report::Report;
+use crate::answers::{NoAnswer, Written};
+use crate::report::{Report, Tester};
 use clocks::answers::{Asked, ask, look_up};
 use search::explores::explore;
 use std::alloc::{AllocError, AllocFailed, Global};
+use std::num::ParseIntError;
 
 #[derive(Drop)]
 pub struct Case {
@@ -35,45 +36,64 @@ impl<T: Drop> From<AllocFailed<T>> for Mistake {
     }
 }
 
-fn parse_row(heap: Global, text: &str, line: usize) -> Result<Vec<u32>, Mistake> {
-    let mut row = Vec::new(heap);
-    for word in text.split_whitespace() {
-        let Ok(number) = word.parse::<u32>() else {
-            return Err(Mistake::Line(line));
-        };
-        row.push(number)?;
-    }
-    Ok(row)
+// Why a line cannot be read.
+#[derive(Clone, Copy)]
+enum Flaw {
+    Memory,
+    NoPart,
 }
 
-fn parse_answers(heap: Global, text: &str, line: usize) -> Result<Vec<Asked>, Mistake> {
-    let mut answers = Vec::new(heap);
-    for part in text.split(" | ") {
-        let Some(answer) = parse(part) else {
-            return Err(Mistake::Line(line));
-        };
-        answers.push(answer)?;
+impl Flaw {
+    fn at(self, line: usize) -> Mistake {
+        match self {
+            Flaw::Memory => Mistake::Memory,
+            Flaw::NoPart => Mistake::Line(line),
+        }
     }
-    Ok(answers)
+}
+
+impl From<AllocError> for Flaw {
+    fn from(_e: AllocError) -> Flaw {
+        Flaw::Memory
+    }
+}
+
+impl From<ParseIntError> for Flaw {
+    fn from(_e: ParseIntError) -> Flaw {
+        Flaw::NoPart
+    }
+}
+
+impl From<NoAnswer> for Flaw {
+    fn from(_e: NoAnswer) -> Flaw {
+        Flaw::NoPart
+    }
+}
+
+fn parse_row(heap: Global, text: &str) -> Result<Vec<u32>, Flaw> {
+    text.split_whitespace()
+        .map(|word| -> Result<u32, Flaw> { Ok(word.parse()?) })
+        .try_collect(heap)
+}
+
+fn parse_answers(heap: Global, text: &str) -> Result<Vec<Asked>, Flaw> {
+    text.split(" | ")
+        .map(|part| -> Result<Asked, Flaw> { Ok(part.parse::<Written>()?.0) })
+        .try_collect(heap)
 }
 
 // Reads a line into the case; whether the case is whole with it.
-fn read_line(heap: Global, case: &mut Case, text: &str, line: usize) -> Result<bool, Mistake> {
+fn read_line(heap: Global, case: &mut Case, text: &str) -> Result<bool, Flaw> {
     if let Some(words) = text.strip_prefix("rows: ") {
-        case.row = parse_row(heap, words, line)?;
+        case.row = parse_row(heap, words)?;
         return Ok(false);
     }
     if let Some(word) = text.strip_prefix("kinds: ") {
-        let Ok(kinds) = word.parse::<u32>() else {
-            return Err(Mistake::Line(line));
-        };
-        case.kinds = kinds;
+        case.kinds = word.parse()?;
         return Ok(false);
     }
-    let Some(parts) = text.strip_prefix("answers: ") else {
-        return Err(Mistake::Line(line));
-    };
-    case.answers = parse_answers(heap, parts, line)?;
+    let parts = text.strip_prefix("answers: ").ok_or(Flaw::NoPart)?;
+    case.answers = parse_answers(heap, parts)?;
     Ok(true)
 }
 
@@ -85,7 +105,9 @@ pub fn parse_all(heap: Global, text: &str) -> Result<Vec<Case>, Mistake> {
         if text.starts_with('#') {
             continue;
         }
-        if read_line(heap, &mut case, text, place.saturating_add(1))? {
+        let line = place.saturating_add(1);
+        let whole = read_line(heap, &mut case, text).map_err(|flaw| flaw.at(line))?;
+        if whole {
             cases.push(case)?;
             case = Case::new(heap);
         }
@@ -93,56 +115,45 @@ pub fn parse_all(heap: Global, text: &str) -> Result<Vec<Case>, Mistake> {
     Ok(cases)
 }
 
-// Every position in one exploration, at just the number of kinds.
-pub fn look_up_each(
+// Every position, with what is said of it when it is asked about.
+pub(crate) fn expect_each<F: FnMut(usize) -> Asked>(
     report: &mut Report,
     what: &str,
     case: &Case,
-    work: &mut [u32],
-) -> Result<(), AllocError> {
-    let explored = explore(case.row.as_slice(), case.kinds, work);
+    mut answer: F,
+) -> Result<(), AllocError>
+    requires { F.IsAlwaysCallable answer }
+{
     for (position, expected) in case.answers.iter().enumerate() {
-        let got = look_up(explored, position);
-        report.expect(what, position, *expected, got)?;
+        report.expect(what, position, *expected, answer(position))?;
     }
     Ok(())
 }
 
-// Every position by itself, at just the number of kinds.
-pub fn ask_each(
-    report: &mut Report,
-    what: &str,
-    case: &Case,
-    work: &mut [u32],
-) -> Result<(), AllocError> {
-    for (position, expected) in case.answers.iter().enumerate() {
-        let got = ask(case.row.as_slice(), position, case.kinds, work);
-        report.expect(what, position, *expected, got)?;
-    }
-    Ok(())
-}
-
-// At one kind less than there are every position gets many.
-fn ask_with_less(report: &mut Report, case: &Case, work: &mut [u32]) -> Result<(), AllocError> {
-    let kinds = case.kinds.saturating_sub(1);
+// Every position at just the number of kinds, by itself and in one exploration; at one kind less every position gets many.
+fn check_answers(tester: &mut Tester, case: &Case) -> Result<(), AllocError> {
+    let row = case.row.as_slice();
+    let kinds = case.kinds;
+    let Tester { report, work } = tester;
+    expect_each(report, "asked", case, |position| {
+        ask(row, position, kinds, work.as_mut_slice())
+    })?;
+    let explored = explore(row, kinds, work.as_mut_slice());
+    expect_each(report, "looked up", case, |position| {
+        look_up(explored, position)
+    })?;
     for position in 0..case.answers.len() {
-        let got = ask(case.row.as_slice(), position, kinds, work);
+        let got = ask(row, position, kinds.saturating_sub(1), work.as_mut_slice());
         report.expect("one kind less", position, Asked::Many, got)?;
     }
     Ok(())
 }
 
 // A line for a case, after its differences.
-pub fn check(
-    report: &mut Report,
-    number: usize,
-    case: &Case,
-    work: &mut [u32],
-) -> Result<(), AllocError> {
-    let before = report.tally;
-    ask_each(report, "asked", case, work)?;
-    look_up_each(report, "looked up", case, work)?;
-    ask_with_less(report, case, work)?;
+pub fn check(tester: &mut Tester, number: usize, case: &Case) -> Result<(), AllocError> {
+    let before = tester.report.tally;
+    check_answers(tester, case)?;
+    let report = &mut tester.report;
     let kinds = case.kinds;
     let positions = case.answers.len();
     write!(

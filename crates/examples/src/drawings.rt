@@ -1,11 +1,12 @@
 // Drawings whose comments say the answers: each position is asked about, and its answer compared with what they say.
-use crate::answers::{Shown, parse, same};
-use crate::report::Report;
+use crate::answers::Written;
+use crate::report::{Report, Tester};
 use crate::words::KINDS;
-use clocks::answers::{Asked, ask, look_up};
+use clocks::answers::{Asked, look_up};
 use drawing::Drawing;
 use search::explores::explore;
 use std::alloc::{AllocError, Global};
+use std::fmt;
 
 // A line that begins so says an answer: `# answer: struck after 2`, or one for all: `# answer: every position at 0`.
 const MARK: &str = "# answer: ";
@@ -14,69 +15,67 @@ const EVERY: &str = "every position ";
 
 #[derive(Clone, Copy)]
 struct Expectation<'a> {
+    // none where it is about every position
     position: Option<&'a str>,
     answer: Asked,
 }
 
-// How often an answer is said for a position: it should be once.
+impl<'a> Expectation<'a> {
+    fn parse(text: &'a str) -> Option<Self> {
+        let (position, answer) = match text.strip_prefix(EVERY) {
+            Some(answer) => (None, answer),
+            None => {
+                let (name, answer) = text.split_once(' ')?;
+                (Some(name), answer)
+            }
+        };
+        let answer = answer.parse::<Written>().ok()?.0;
+        Some(Expectation { position, answer })
+    }
+
+    fn is_about(&self, position: &str) -> bool {
+        let Some(name) = self.position else {
+            return true;
+        };
+        name == position
+    }
+
+    fn is_about_one_of(&self, positions: &[String]) -> bool {
+        let Some(name) = self.position else {
+            return true;
+        };
+        positions.iter().any(|known| known.as_str() == name)
+    }
+}
+
+// Why no one answer is said for a position.
 #[derive(Clone, Copy)]
-enum Said {
+enum Doubt {
     Nowhere,
-    Once(Asked),
     Twice,
 }
 
-fn parse_expectation(text: &str) -> Option<Expectation<'_>> {
-    if let Some(answer) = text.strip_prefix(EVERY) {
-        return Some(Expectation {
-            position: None,
-            answer: parse(answer)?,
-        });
-    }
-    let (name, answer) = text.split_once(' ')?;
-    Some(Expectation {
-        position: Some(name),
-        answer: parse(answer)?,
-    })
-}
-
-fn is_about(expectation: Expectation<'_>, position: &str) -> bool {
-    match expectation.position {
-        Some(name) => name == position,
-        None => true,
+impl fmt::Display for Doubt {
+    fn fmt<W: fmt::Write>(&self, f: &mut fmt::Formatter<W>) -> fmt::Result {
+        f.write_str(match self {
+            Doubt::Nowhere => "no line says what is expected",
+            Doubt::Twice => "two lines say what is expected",
+        })
     }
 }
 
 // What the text says about a position.
-fn find(text: &str, position: &str) -> Said {
-    let mut said = Said::Nowhere;
-    for line in text.lines() {
-        let Some(rest) = line.strip_prefix(MARK) else {
-            continue;
-        };
-        let Some(expectation) = parse_expectation(rest) else {
-            continue;
-        };
-        if is_about(expectation, position) {
-            said = match said {
-                Said::Nowhere => Said::Once(expectation.answer),
-                _ => Said::Twice,
-            };
-        }
+fn find(text: &str, position: &str) -> Result<Asked, Doubt> {
+    let mut about = text
+        .lines()
+        .filter_map(|line| line.strip_prefix(MARK))
+        .filter_map(Expectation::parse)
+        .filter(|expectation| expectation.is_about(position));
+    let expectation = about.next().ok_or(Doubt::Nowhere)?;
+    match about.next() {
+        Some(_) => Err(Doubt::Twice),
+        None => Ok(expectation.answer),
     }
-    said
-}
-
-fn is_known(position: Option<&str>, positions: &[String]) -> bool {
-    let Some(name) = position else {
-        return true;
-    };
-    for known in positions {
-        if known.as_str() == name {
-            return true;
-        }
-    }
-    false
 }
 
 // A line with the mark that says no answer, or one for a position that is not there, is a fault.
@@ -85,20 +84,18 @@ fn check_lines(report: &mut Report, text: &str, positions: &[String]) -> Result<
         let Some(rest) = line.strip_prefix(MARK) else {
             continue;
         };
-        match parse_expectation(rest) {
-            Some(expectation) if is_known(expectation.position, positions) => {}
-            _ => report.fault(line)?,
+        let known = Expectation::parse(rest).is_some_and(|expectation| expectation.is_about_one_of(
+            positions,
+        ));
+        if !known {
+            report.fault(line)?;
         }
     }
     Ok(())
 }
 
 fn widest(positions: &[String]) -> usize {
-    let mut width = 0usize;
-    for name in positions {
-        width = width.max(name.len());
-    }
-    width
+    positions.iter().map(|name| name.len()).max().unwrap_or(0)
 }
 
 // A row of the table, with what is wrong about it.
@@ -106,41 +103,33 @@ fn compare(
     report: &mut Report,
     name: &str,
     width: usize,
-    said: Said,
+    said: Result<Asked, Doubt>,
     got: Asked,
 ) -> Result<(), AllocError> {
-    let shown = Shown(got);
+    let shown = Written(got);
     write!(report.text, "  {name:<width$}  {shown}")?;
     match said {
-        Said::Once(answer) => {
-            let as_expected = same(answer, got);
+        Ok(answer) => {
+            let as_expected = answer == got;
             report.tally = report.tally.with(as_expected);
             if as_expected {
                 return report.line("");
             }
-            let expected = Shown(answer);
+            let expected = Written(answer);
             write!(report.text, "\n  DIFFERENCE: {expected} is expected\n")
         }
-        Said::Nowhere => {
+        Err(doubt) => {
             report.line("")?;
-            report.fault("no line says what is expected")
-        }
-        Said::Twice => {
-            report.line("")?;
-            report.fault("two lines say what is expected")
+            report.fault(doubt)
         }
     }
 }
 
 // All positions from one exploration.
-fn tabulate(
-    report: &mut Report,
-    text: &str,
-    drawing: &Drawing,
-    work: &mut [u32],
-) -> Result<(), AllocError> {
+fn tabulate(tester: &mut Tester, text: &str, drawing: &Drawing) -> Result<(), AllocError> {
     let width = widest(drawing.positions.as_slice());
-    let explored = explore(drawing.row.as_slice(), KINDS, work);
+    let Tester { report, work } = tester;
+    let explored = explore(drawing.row.as_slice(), KINDS, work.as_mut_slice());
     for (position, name) in drawing.positions.iter().enumerate() {
         let name = name.as_str();
         let got = look_up(explored, position);
@@ -150,38 +139,29 @@ fn tabulate(
 }
 
 // Each position asked for by itself must have the same answer.
-fn ask_each(
-    report: &mut Report,
-    text: &str,
-    drawing: &Drawing,
-    work: &mut [u32],
-) -> Result<(), AllocError> {
+fn ask_each(tester: &mut Tester, text: &str, drawing: &Drawing) -> Result<(), AllocError> {
     for (position, name) in drawing.positions.iter().enumerate() {
-        let got = ask(drawing.row.as_slice(), position, KINDS, work);
-        if let Said::Once(answer) = find(text, name.as_str()) {
-            report.expect("asked by itself", position, answer, got)?;
+        let got = tester.ask(drawing.row.as_slice(), position, KINDS);
+        if let Ok(answer) = find(text, name.as_str()) {
+            tester
+                .report
+                .expect("asked by itself", position, answer, got)?;
         }
     }
     Ok(())
 }
 
-pub fn check(
-    heap: Global,
-    report: &mut Report,
-    name: &str,
-    text: &str,
-    work: &mut [u32],
-) -> Result<(), AllocError> {
-    report.line(name)?;
+pub fn check(heap: Global, tester: &mut Tester, name: &str, text: &str) -> Result<(), AllocError> {
+    tester.report.line(name)?;
     match drawing::read(heap, text.as_bytes()) {
         Ok(drawing) => {
-            check_lines(report, text, drawing.positions.as_slice())?;
-            tabulate(report, text, &drawing, work)?;
-            ask_each(report, text, &drawing, work)
+            check_lines(&mut tester.report, text, drawing.positions.as_slice())?;
+            tabulate(tester, text, &drawing)?;
+            ask_each(tester, text, &drawing)
         }
         Err(refusal) => {
-            report.fault("the drawing is refused")?;
-            write!(report.text, "  {refusal}\n")
+            tester.report.fault("the drawing is refused")?;
+            write!(tester.report.text, "  {refusal}\n")
         }
     }
 }

@@ -2,8 +2,7 @@
 #![tactic(auto)]
 
 use crate::cases::{Case, Mistake};
-use crate::limits::Limit;
-use crate::report::{Report, Tally};
+use crate::report::{Report, Tally, Tester};
 use crate::words::{KINDS, WORDS};
 use anyhow::anyhow;
 use std::alloc::{AllocError, Global};
@@ -17,97 +16,117 @@ mod report;
 mod words;
 
 // All drawings of a folder, with how many answers were compared.
-fn check_folder(
-    rt: &HostRuntime,
-    report: &mut Report,
-    folder: &str,
-    work: &mut [u32],
-) -> anyhow::Result<()> {
-    let before = report.tally;
+fn check_folder(rt: &HostRuntime, tester: &mut Tester, folder: &str) -> anyhow::Result<()> {
+    let before = tester.report.tally;
     for name in &files::list(rt, folder)? {
         let name = name.as_str();
         let text = files::read(rt, folder, name)?;
-        drawings::check(rt.alloc(), report, name, text.as_str(), work)?;
+        drawings::check(rt.alloc(), tester, name, text.as_str())?;
     }
-    report.sum_up(folder, before)?;
-    report.line("")?;
+    tester.report.sum_up(folder, before)?;
+    tester.report.line("")?;
     Ok(())
 }
 
-fn check_cases(report: &mut Report, cases: &[Case], work: &mut [u32]) -> Result<(), AllocError> {
-    let before = report.tally;
-    report.line("cases, at just their number of kinds and at one less:")?;
+fn check_cases(tester: &mut Tester, cases: &[Case]) -> Result<(), AllocError> {
+    let before = tester.report.tally;
+    tester
+        .report
+        .line("cases, at just their number of kinds and at one less:")?;
     for (place, case) in cases.iter().enumerate() {
-        cases::check(report, place.saturating_add(1), case, work)?;
+        cases::check(tester, place.saturating_add(1), case)?;
     }
-    report.sum_up("cases", before)?;
-    report.line("")
+    tester.report.sum_up("cases", before)?;
+    tester.report.line("")
 }
 
-// The edges of a call, each for every case.
-fn check_limits(
-    heap: Global,
-    report: &mut Report,
+// One edge of a call, for every case.
+fn check_limit<F: Fn(&mut Tester, &Case) -> Result<(), AllocError>>(
+    tester: &mut Tester,
     cases: &[Case],
-    work: &mut [u32],
-) -> Result<(), AllocError> {
-    for limit in [
-        Limit::Few,
-        Limit::Places,
-        Limit::Garbage,
-        Limit::Twice,
-        Limit::Broken,
-    ] {
-        let before = report.tally;
-        for case in cases {
-            limits::check(limit, heap, report, case, work)?;
-        }
-        report.sum_up(limits::name_of(limit), before)?;
+    name: &str,
+    check: F,
+) -> Result<(), AllocError>
+    requires { F.IsAlwaysCallable check }
+{
+    let before = tester.report.tally;
+    for case in cases {
+        check(tester, case)?;
     }
-    report.line("")
+    tester.report.sum_up(name, before)
+}
+
+fn check_limits(heap: Global, tester: &mut Tester, cases: &[Case]) -> Result<(), AllocError> {
+    check_limit(
+        tester,
+        cases,
+        "few at one word less than enough, and the answers at enough",
+        limits::check_few,
+    )?;
+    check_limit(
+        tester,
+        cases,
+        "no place past the last position",
+        limits::check_places,
+    )?;
+    check_limit(
+        tester,
+        cases,
+        "the same answers whatever the words hold",
+        limits::check_garbage,
+    )?;
+    check_limit(
+        tester,
+        cases,
+        "the same answers at a second call",
+        limits::check_twice,
+    )?;
+    check_limit(tester, cases, "no work for broken rows", |tester, case| {
+        limits::check_broken(heap, tester, case)
+    })?;
+    tester.report.line("")
 }
 
 // The rows of the file with their answers.
-fn check_rows(
-    heap: Global,
-    report: &mut Report,
-    text: &str,
-    work: &mut [u32],
-) -> Result<(), AllocError> {
+fn check_rows(heap: Global, tester: &mut Tester, text: &str) -> Result<(), AllocError> {
     match cases::parse_all(heap, text) {
         Ok(cases) => {
-            check_cases(report, cases.as_slice(), work)?;
-            check_limits(heap, report, cases.as_slice(), work)
+            check_cases(tester, cases.as_slice())?;
+            check_limits(heap, tester, cases.as_slice())
         }
-        Err(Mistake::Memory) => report.fault("there is not enough memory for the cases"),
+        Err(Mistake::Memory) => tester
+            .report
+            .fault("there is not enough memory for the cases"),
         Err(Mistake::Line(line)) => {
-            write!(report.text, "cases.txt, line {line}:\n")?;
-            report.fault("no part of a case")
+            write!(tester.report.text, "cases.txt, line {line}:\n")?;
+            tester.report.fault("no part of a case")
         }
     }
 }
 
-fn check_all(rt: &HostRuntime, report: &mut Report) -> anyhow::Result<()> {
-    let mut words = vec![in rt.alloc(); 0u32; WORDS]?;
-    let work = words.as_mut_slice();
+fn check_all(rt: &HostRuntime, tester: &mut Tester) -> anyhow::Result<()> {
     write!(
-        report.text,
+        tester.report.text,
         "Drawings, with at most {KINDS} kinds of states:\n\n"
     )?;
-    check_folder(rt, report, "drawings", work)?;
-    check_folder(rt, report, "errors", work)?;
+    check_folder(rt, tester, "drawings")?;
+    check_folder(rt, tester, "errors")?;
     let text = files::read(rt, ".", "cases.txt")?;
-    check_rows(rt.alloc(), report, text.as_str(), work)?;
-    report.sum_up("in all", Tally::new())?;
+    check_rows(rt.alloc(), tester, text.as_str())?;
+    tester.report.sum_up("in all", Tally::new())?;
     Ok(())
 }
 
 fn run(rt: &HostRuntime) -> anyhow::Result<()> {
-    let mut report = Report::new(rt.alloc());
-    let done = check_all(rt, &mut report);
-    rt.print(report.text.as_str())?;
+    let heap = rt.alloc();
+    let mut tester = Tester {
+        report: Report::new(heap),
+        work: vec![in heap; 0u32; WORDS]?,
+    };
+    let done = check_all(rt, &mut tester);
+    rt.print(tester.report.text.as_str())?;
     done?;
-    if report.tally.differences > 0 {
+    if tester.report.tally.differences > 0 {
         return Err(anyhow!("an answer is not the expected one"));
     }
     Ok(())

@@ -1,8 +1,9 @@
 // What was tried and how often it came out otherwise than expected, with the text that tells it.
-ghost use Rattle.std.specs.Prelude.{◌≡◌, ◌+◌, ◌-◌, ◌^◌, min, cond, ◌≢◌};
+ghost use Rattle.std.specs.Prelude.{◌≡◌, ◌+◌, ◌-◌, ◌^◌, min, cond, ◌≢◌, vec_len};
+ghost use Rattle.clocks.specs.Asked.{AskedPost};
 
-use crate::answers::{Shown, same};
-use clocks::answers::Asked;
+use crate::answers::Written;
+use clocks::answers::{Asked, ask};
 use std::alloc::{AllocError, Global};
 use std::fmt;
 
@@ -82,10 +83,9 @@ impl Report {
     }
 
     // A thing that went wrong, which counts as a difference.
-    pub fn fault(&mut self, text: &str) -> Result<(), AllocError> {
+    pub fn fault<D: fmt::Display + Drop>(&mut self, what: D) -> Result<(), AllocError> {
         self.tally = self.tally.with(false);
-        self.text.push_str("  DIFFERENCE: ")?;
-        self.line(text)
+        write!(self.text, "  DIFFERENCE: {what}\n")
     }
 
     // An answer beside the expected one: a line is written only where they differ.
@@ -99,16 +99,33 @@ impl Report {
         ensures as_expected { expected ≡ got → self.new.tally.differences ≡ self.old.tally.differences }
         ensures difference { (expected ≢ got) → self.new.tally.differences ≡ min (self.old.tally.differences + 1) (2 ^ 64 - 1) }
     {
-        let as_expected = same(expected, got);
+        let as_expected = expected == got;
         self.tally = self.tally.with(as_expected);
         if as_expected {
             return Ok(());
         }
-        let expected = Shown(expected);
-        let got = Shown(got);
+        let expected = Written(expected);
+        let got = Written(got);
         write!(
             self.text,
             "  DIFFERENCE: {what}, position {position}: {got}, expected {expected}\n"
         )
+    }
+}
+
+// A report, and the words that are lent for its answers.
+#[derive(Drop)]
+pub struct Tester {
+    pub report: Report,
+    pub work: Vec<u32>,
+}
+
+impl Tester {
+    pub fn ask(&mut self, row: &[u32], position: usize, kinds: u32) -> Asked
+        ensures promised { AskedPost row.now position kinds (vec_len self.old.work) result }
+        ensures report { self.new.report ≡ self.old.report }
+        ensures room { vec_len self.new.work ≡ vec_len self.old.work }
+    {
+        ask(row, position, kinds, self.work.as_mut_slice())
     }
 }

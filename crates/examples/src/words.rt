@@ -5,9 +5,9 @@ ghost use Rattle.std.specs.Prelude.{◌≡◌, ◌+◌, ◌*◌, ◌≤◌, leng
 pub const KINDS: u32 = 3000;
 
 // Enough for every row with so many kinds.
-pub const WORDS: usize = 65_536 + 8 * 16_384 + 256 * 3_000;
+pub const WORDS: usize = 65_536 + 8 * 16_384 + 256 * KINDS as usize;
 
-// What stands in the words before a search.
+// What stands in the words before a search. Values, for a loop over all: closures of several types stand in no array.
 #[derive(Clone, Copy)]
 pub enum Garbage {
     Zeros,
@@ -16,7 +16,7 @@ pub enum Garbage {
     Stripes,
 }
 
-// How many words a search must be lent.
+// How many words a search must be lent, counted apart from the search, which is tested by it.
 pub fn enough(row: usize, kinds: u32) -> usize
     ensures { row ≤ 16384 → result ≡ 65536 + 8 * row + 256 * kinds }
 {
@@ -24,12 +24,16 @@ pub fn enough(row: usize, kinds: u32) -> usize
         .saturating_add(65_536 + 256 * kinds as usize)
 }
 
-fn word_of(garbage: Garbage, place: usize) -> u32 {
-    match garbage {
-        Garbage::Zeros => 0,
-        Garbage::Ones => u32::MAX,
-        Garbage::Places => (place & 0xffff_ffff) as u32,
-        Garbage::Stripes => { if place % 2 == 0 { 0x5555_5555 } else { 1 } }
+impl Garbage {
+    // What stands at a place.
+    fn word(self, place: usize) -> u32 {
+        match self {
+            Garbage::Zeros => 0,
+            Garbage::Ones => u32::MAX,
+            Garbage::Places => (place & 0xffff_ffff) as u32,
+            Garbage::Stripes if place % 2 == 0 => 0x5555_5555,
+            Garbage::Stripes => 1,
+        }
     }
 }
 
@@ -37,6 +41,6 @@ pub fn fill(work: &mut [u32], garbage: Garbage)
     ensures { length work.new ≡ length work.old }
 {
     for (place, word) in work.iter_mut().enumerate() {
-        *word = word_of(garbage, place);
+        *word = garbage.word(place);
     }
 }

@@ -1,17 +1,18 @@
--- How many of the moves so far are waits.
-use Rattle.std.proofs.Common.{◌≡◌, ℕ, ◌+◌, ◌<◌, ◌≤◌, List, [], ◌∷◌, ◌++◌, length, get_or, take, ap, ◌∙◌, arith}
-use Rattle.std.proofs.lemmas.List.{take_more, take_all}
+-- How many of some moves are waits.
+use Rattle.std.proofs.Common.{◌≡◌, ℕ, Bool, true, false, cond, count_by, List, [], ◌∷◌, refl, arith}
+use Rattle.std.proofs.lemmas.List.Sums.{sum_by-cons}
 use Rattle.replay.specs.declared.moments.Move.{Move}
 use Rattle.replay.specs.declared.moments.Move.TheVariants.{Wait, Step}
 use Rattle.realise.specs.Runs.{wait_count}
 
-count-push : (ms : List Move) (m : Move) → wait_count (ms ++ m ∷ []) ≡ wait_count ms + wait_count (m ∷ [])
-count-push [] m = omega arith
-count-push (Wait k ∷ ms) m = omega (arith, count-push ms m)
-count-push (Step i ∷ ms) m = omega (arith, count-push ms m)
+abbrev pub is_wait : Move → Bool
+is_wait (Wait k) = true
+is_wait (Step i) = false
 
-pub count-more : (ms : List Move) (i : ℕ) → i < length ms → wait_count (take (i + 1) ms) ≡ wait_count (take i ms) + wait_count (get_or ms i (Wait 0) ∷ [])
-count-more ms i h = ap wait_count (take_more ms i (Wait 0) h) ∙ count-push (take i ms) (get_or ms i (Wait 0))
+abbrev counts : Move → ℕ
+counts m = cond (is_wait m) 1 0
 
-pub count-all : (ms : List Move) (i : ℕ) → length ms ≤ i → wait_count (take i ms) ≡ wait_count ms
-count-all ms i h = ap wait_count (take_all i ms h)
+pub waits_counted : (ms : List Move) → count_by is_wait ms ≡ wait_count ms
+waits_counted [] = refl
+waits_counted (Wait k ∷ ms) = omega (arith, sum_by-cons counts (Wait k) ms, waits_counted ms)
+waits_counted (Step i ∷ ms) = omega (arith, sum_by-cons counts (Step i) ms, waits_counted ms)

@@ -3,7 +3,8 @@ use crate::orders::{Element, Order};
 use crate::runs::Failure;
 use crate::ways::{Leg, Passage};
 use cells::frames::Frame;
-use cells::values::{MOST_CLOCKS, Region};
+use cells::values::Region;
+use rows::limits::CLOCKS;
 use std::alloc::Global;
 
 // A time: a whole number and a fraction.
@@ -27,12 +28,6 @@ pub struct Plan {
     pub order: Order,
 }
 
-// When each clock was last set back.
-#[derive(Clone, Copy)]
-struct Resets {
-    instants: [Instant; MOST_CLOCKS],
-}
-
 const START: Instant = Instant {
     whole: 0,
     fraction: 0,
@@ -50,95 +45,88 @@ fn instant_of(cell_height: u32, top: u32, reset: Instant) -> Option<Instant> {
     })
 }
 
-// The one instant at which the region is shown; none where no clock has a whole value, so that it is shown for a while.
-fn only_instant(frame: Frame, resets: &Resets, region: &Region) -> Option<Instant> {
-    for clock in 0..frame.clocks {
-        let height = region.cells[clock].height;
-        if let Some(instant) = instant_of(height, frame.top, resets.instants[clock]) {
-            return Some(instant);
-        }
-    }
-    None
-}
-
-// The clocks that are 0 after an edge count as set back then: one that it did not set back was 0 before.
-fn set_back(frame: Frame, resets: &mut Resets, region: &Region, now: Instant) {
-    for clock in 0..frame.clocks {
-        if region.cells[clock].height == 0 {
-            resets.instants[clock] = now;
-        }
-    }
-}
-
-// Whether the passage at a place is a delay.
-fn is_delay(way: &[Leg], place: usize) -> bool {
-    match way.get(place) {
-        Some(leg) => matches!(leg.by, Passage::Delay),
-        None => false,
-    }
-}
-
-// The instant just before the delay at a place begins. Time comes to whole values of clocks and leaves them in turn, so that a
-// region that is shown for a while comes after one that is shown for an instant.
-fn instant_before(
+// A plan so far, at an instant.
+#[derive(Drop)]
+struct Planner {
     frame: Frame,
-    resets: &Resets,
-    way: &[Leg],
-    place: usize,
+    plan: Plan,
     now: Instant,
-) -> Option<Instant> {
-    if place == 0 || !is_delay(way, place - 1) {
-        return Some(now);
-    }
-    only_instant(frame, resets, &way.get(place - 1)?.region)
+    // when each clock was last set back
+    resets: [Instant; CLOCKS],
 }
 
-// The instant at which the wait ends whose last delay is at a place.
-fn wait_end(
-    frame: Frame,
-    order: &mut Order,
-    resets: &Resets,
-    way: &[Leg],
-    place: usize,
-    now: Instant,
-) -> Result<Instant, Failure> {
-    let Some(leg) = way.get(place) else {
-        return Err(Failure::Astray);
-    };
-    if let Some(instant) = only_instant(frame, resets, &leg.region) {
-        return Ok(instant);
+impl Planner {
+    fn new(heap: Global, frame: Frame) -> Result<Self, Failure> {
+        Ok(Planner {
+            frame,
+            plan: Plan {
+                events: Vec::new(heap),
+                order: Order::new(heap)?,
+            },
+            now: START,
+            resets: [START; CLOCKS],
+        })
     }
-    let Some(before) = instant_before(frame, resets, way, place, now) else {
-        return Err(Failure::Astray);
-    };
-    let fraction = order.insert_after(before.fraction)?;
-    Ok(Instant {
-        whole: before.whole,
-        fraction,
-    })
+
+    // The one instant at which the region is shown; none where no clock has a whole value, so that it is shown for a while.
+    fn only_instant(&self, region: &Region) -> Option<Instant> {
+        let top = self.frame.top;
+        region
+            .cells
+            .iter()
+            .zip(self.resets.iter())
+            .take(self.frame.clocks)
+            .find_map(|(cell, reset)| instant_of(cell.height, top, *reset))
+    }
+
+    // An edge. The clocks that are 0 after it count as set back then: one that it did not set back was 0 before.
+    fn take(&mut self, edge: u32, region: &Region) -> Result<(), Failure> {
+        self.plan.events.push(Event::Edge(edge))?;
+        let now = self.now;
+        let cells = region.cells.iter().take(self.frame.clocks);
+        for (reset, cell) in self.resets.iter_mut().zip(cells) {
+            if cell.height == 0 {
+                *reset = now;
+            }
+        }
+        Ok(())
+    }
+
+    // A wait, whose legs are delays. Time comes to whole values of clocks and leaves them in turn, so that a region that is shown
+    // for a while comes after one that is shown for an instant.
+    fn wait(&mut self, legs: &[Leg]) -> Result<(), Failure> {
+        let (last, before) = legs.split_last().ok_or(Failure::Astray)?;
+        self.now = match self.only_instant(&last.region) {
+            Some(instant) => instant,
+            None => {
+                let since = match before.last() {
+                    Some(leg) => self.only_instant(&leg.region).ok_or(Failure::Astray)?,
+                    None => self.now,
+                };
+                Instant {
+                    whole: since.whole,
+                    fraction: self.plan.order.insert_after(since.fraction)?,
+                }
+            }
+        };
+        self.plan.events.push(Event::Until(self.now))?;
+        Ok(())
+    }
 }
 
 // What happens along a way.
 pub fn plan_along(heap: Global, frame: Frame, way: &[Leg]) -> Result<Plan, Failure> {
-    let mut order = Order::new(heap)?;
-    let mut events = Vec::new(heap);
-    let mut now = START;
-    let mut resets = Resets {
-        instants: [START; MOST_CLOCKS],
-    };
-    for (place, leg) in way.iter().enumerate() {
-        match leg.by {
-            Passage::Edge(number) => {
-                events.push(Event::Edge(number))?;
-                set_back(frame, &mut resets, &leg.region, now);
-            }
-            Passage::Delay => {
-                if !is_delay(way, place.saturating_add(1)) {
-                    now = wait_end(frame, &mut order, &resets, way, place, now)?;
-                    events.push(Event::Until(now))?;
-                }
-            }
+    let mut planner = Planner::new(heap, frame)?;
+    for legs in way.chunk_by(|leg, next| leg.by == Passage::Delay && next.by == Passage::Delay) {
+        match legs {
+            [
+                Leg {
+                    by: Passage::Edge(number),
+                    region,
+                },
+            ] => planner.take(*number, region)?,
+            _ => planner.wait(legs)?,
         }
     }
-    Ok(Plan { events, order })
+    Ok(planner.plan)
 }

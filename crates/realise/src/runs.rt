@@ -45,6 +45,16 @@ impl<T: Drop> From<AllocFailed<T>> for Failure {
     }
 }
 
+// A way of the automaton is one all of whose moves are allowed.
+impl From<Fault> for Failure {
+    fn from(fault: Fault) -> Failure {
+        match fault {
+            Fault::NoRoom => Failure::NoRoom,
+            _ => Failure::Astray,
+        }
+    }
+}
+
 // The number of d-ths of an instant.
 fn parts(instant: Instant, places: &[u64], denominator: u64) -> Option<u64> {
     let place = *places.get(instant.fraction)?;
@@ -64,12 +74,8 @@ fn moves_of(
         match *event {
             Event::Edge(number) => moves.push(Move::Step(number))?,
             Event::Until(instant) => {
-                let Some(time) = parts(instant, places, denominator) else {
-                    return Err(Failure::NoRoom);
-                };
-                let Some(delay) = time.checked_sub(now) else {
-                    return Err(Failure::Astray);
-                };
+                let time = parts(instant, places, denominator).ok_or(Failure::NoRoom)?;
+                let delay = time.checked_sub(now).ok_or(Failure::Astray)?;
                 if delay > 0 {
                     moves.push(Move::Wait(delay))?;
                 }
@@ -84,14 +90,10 @@ fn moves_of(
 fn count_waits(moves: &[Move]) -> usize
     ensures { result ≡ wait_count moves.now }
 {
-    let mut count = 0;
-    for next in moves {
-        match *next {
-            Move::Wait(_) => count += 1,
-            Move::Step(_) => {}
-        }
-    }
-    count
+    moves
+        .iter()
+        .filter(|by| matches!(by, Move::Wait(_)))
+        .count()
 }
 
 // Whether a denominator has no more than the parts of a fraction for each wait, and 0.
@@ -109,9 +111,9 @@ fn moves_along(
     arrival: Arrival,
 ) -> Result<(u64, Vec<Move>), Failure> {
     let Plan { events, order } = plan_along(heap, frame_of(*automaton), way)?;
-    let Some(denominator) = (order.len() as u64).checked_mul(u64::from(part_of(arrival))) else {
-        return Err(Failure::NoRoom);
-    };
+    let denominator = (order.len() as u64)
+        .checked_mul(u64::from(part_of(arrival)))
+        .ok_or(Failure::NoRoom)?;
     let places = order.places(heap)?;
     let moves = moves_of(heap, events.as_slice(), places.as_slice(), denominator)?;
     Ok((denominator, moves))
@@ -127,12 +129,8 @@ fn end_of(
 ) -> Result<Moment, Failure>
     ensures { IfOk result (λ end. (a : automata.Automaton) → Views automaton.now a → Ends a location.0 arrival denominator moves.now end) }
 {
-    let end = match replay(automaton, denominator, moves) {
-        Ok(moment) => moment,
-        Err(Fault::NoRoom) => return Err(Failure::NoRoom),
-        Err(_) => return Err(Failure::Astray),
-    };
-    if end.location.0 != location.0 || !in_time(arrival, denominator, end.time) {
+    let end = replay(automaton, denominator, moves)?;
+    if end.location != location || !in_time(arrival, denominator, end.time) {
         return Err(Failure::Astray);
     }
     if !is_small(denominator, count_waits(moves), arrival) {

@@ -2,7 +2,7 @@
 use cells::values::Region;
 
 // How the next region is come to: time goes on, or the edge of a number is taken, from 0 in the order of the row.
-#[derive(Clone, Copy)]
+#[derive(Clone, Copy, PartialEq, Eq)]
 pub enum Passage {
     Delay,
     Edge(u32),

@@ -4,6 +4,7 @@ use grids::grid::PARTS;
 use replay::fractions::Fraction;
 use std::fmt;
 
+// An answer; the program `examples` has shorter words for those that are none.
 #[derive(Clone, Copy)]
 pub struct Told(pub Asked);
 

@@ -24,9 +24,6 @@ nought = record { height = 0; rank = 0 }
 pub nought_seen : (top : ℕ) → Seen top nought 0 0
 nought_seen top = record { height = omega (arith, height_cases top 0 0); zero_rank = λ h. (λ e. refl, λ e. refl) }
 
-pub nought_consistent : (top : ℕ) → Consistent top nought
-nought_consistent top = (omega arith, λ h. (λ e. refl, λ e. refl))
-
 -- what is seen: a clock that is not beyond has the whole part and the fraction of its cell
 seen_inside : (top : ℕ) (c : Cell) (g r : ℕ) → Seen top c g r → c.height ≤ 2 * top → g ≡ c.height / 2
 seen_inside top c g r seen h = omega (arith, height_cases top g r, seen.height)

@@ -6,42 +6,19 @@ use console::messages::Problem;
 use realise::runs::Failure;
 use rows::edges::Location;
 use rows::views::Automaton;
-use search::answers::Table;
 use search::explores::{Explored, explore};
 use std::alloc::Global;
 use witnesses::answers::{Witness, witness_of};
 
-// What is shown beside the answer.
-#[derive(Drop)]
-pub enum Shown {
-    Run(Witness),
-    // the numbers of the run have no place
-    NoRoom,
-    // there is none to show
-    NoRun,
-}
+// The numbers of a run have no place.
+#[derive(Clone, Copy)]
+pub struct NoRoom;
 
+// The answer, and the run to show beside it, if there is one.
 #[derive(Drop)]
 pub struct Finding {
     pub asked: Asked,
-    pub shown: Shown,
-}
-
-fn show(
-    heap: Global,
-    automaton: &Automaton,
-    table: &Table,
-    kinds: u32,
-    location: Location,
-    part: u32,
-) -> Result<Shown, Trouble> {
-    match witness_of(heap, automaton, table, kinds, location, part) {
-        Ok(Some(witness)) => Ok(Shown::Run(witness)),
-        Ok(None) => Ok(Shown::NoRun),
-        Err(Failure::NoRoom) => Ok(Shown::NoRoom),
-        Err(Failure::Memory) => Err(Trouble::Problem(Problem::Memory)),
-        Err(Failure::Astray) => Err(Trouble::Astray),
-    }
+    pub shown: Result<Option<Witness>, NoRoom>,
 }
 
 // Explores, looks up and shows; the words of the search are given back.
@@ -57,8 +34,15 @@ pub fn find(
     let explored = explore(row, kinds, work.as_mut_slice());
     let asked = look_up(explored, location.0 as usize);
     let shown = match explored {
-        Explored::Known(table) => show(heap, automaton, &table, kinds, location, part)?,
-        _ => Shown::NoRun,
+        Explored::Known(table) => {
+            match witness_of(heap, automaton, &table, kinds, location, part) {
+                Ok(witness) => Ok(witness),
+                Err(Failure::NoRoom) => Err(NoRoom),
+                Err(Failure::Memory) => return Err(Trouble::Problem(Problem::Memory)),
+                Err(Failure::Astray) => return Err(Trouble::Astray),
+            }
+        }
+        _ => Ok(None),
     };
     Ok(Finding { asked, shown })
 }

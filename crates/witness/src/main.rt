@@ -1,18 +1,19 @@
 // Reads a clockwork, as a drawing or as a row of numbers, and shows a run that reaches a position as early as can be.
 #![tactic(auto)]
 
-use crate::options::{Options, Request};
+ghost use Rattle.automata.specs.Automata.{Automaton};
+ghost use Rattle.automata.specs.Rows.{Reads};
+ghost use Rattle.std.specs.Prelude.{IfOk};
+
+use crate::options::Options;
 use crate::troubles::{Complaint, Trouble};
 use accounts::names::Names;
-use clockworks::rows::Unfit;
 use console::budget::kinds_that_fit;
 use console::messages::Problem;
-use console::options::BadCall;
+use console::options::{BadCall, Request};
 use console::{input, positions, texts};
 use drawing::Drawing;
 use rows::edges::Location;
-use rows::reader;
-use rows::views::Automaton;
 use std::alloc::{AllocError, Global};
 use std::process::ExitCode;
 use std::{env, io};
@@ -38,43 +39,31 @@ fn find_position(
     let word = word.as_str();
     match positions::find(names, count, word) {
         Some(position) => Ok(Location(u32::try_from(position).unwrap_or(u32::MAX))),
-        None => Err(Trouble::Problem(Problem::Position(positions::refuse(
-            heap, names, count, word,
-        )?))),
+        None => Err(Trouble::from(Problem::Position(positions::refuse(heap, names, count, word)?))),
     }
 }
 
-// A name for each clock: x and its number where it has none.
-fn clock_names(heap: Global, known: &[String], count: u32) -> Result<Vec<String>, AllocError> {
-    let mut names = Vec::new(heap);
-    for clock in 0..count {
-        let name = match known.get(clock as usize) {
-            Some(name) => name.clone()?,
-            None => format!(in heap; "x{clock}")?,
-        };
-        names.push(name)?;
-    }
-    Ok(names)
+// A name for each of so many: what it is called, or some letters and its number.
+fn names(
+    heap: Global,
+    known: &[String],
+    letters: &str,
+    count: u32,
+) -> Result<Vec<String>, AllocError> {
+    (0..count)
+        .map(|number| -> Result<String, AllocError> {
+            match known.get(number as usize) {
+                Some(name) => name.clone(),
+                None => format!(in heap; "{letters}{number}"),
+            }
+        })
+        .try_collect(heap)
 }
 
-fn position_names(heap: Global, known: &[String], count: u32) -> Result<Vec<String>, AllocError> {
-    let mut names = Vec::new(heap);
-    for position in 0..count {
-        names.push(positions::name_of(heap, known, position as usize)?)?;
-    }
-    Ok(names)
-}
-
-// What was read from a text is always a clockwork's row.
-fn view(row: &[u32]) -> Result<Automaton<'_>, Problem> {
-    match reader::read(row) {
-        Ok(automaton) => Ok(automaton),
-        Err(_) => Err(Problem::Unfit(Unfit::Other)),
-    }
-}
-
-fn write_output(heap: Global, options: &Options, drawing: &Drawing) -> Result<String, Trouble> {
-    let automaton = view(drawing.row.as_slice())?;
+fn write_output(heap: Global, options: &Options, drawing: &Drawing) -> Result<String, Trouble>
+    requires { (a : Automaton) × Reads drawing.now.row.items a }
+{
+    let automaton = texts::view(drawing.row.as_slice());
     let known = drawing.positions.as_slice();
     let location = find_position(heap, options, known, automaton.locations())?;
     if options.part == 0 {
@@ -82,8 +71,8 @@ fn write_output(heap: Global, options: &Options, drawing: &Drawing) -> Result<St
     }
     let kinds = options.kinds.unwrap_or(kinds_that_fit(drawing.row.len()));
     let finding = findings::find(heap, &automaton, kinds, location, options.part)?;
-    let clocks = clock_names(heap, drawing.clocks.as_slice(), automaton.clocks())?;
-    let positions = position_names(heap, known, automaton.locations())?;
+    let clocks = names(heap, drawing.clocks.as_slice(), "x", automaton.clocks())?;
+    let positions = names(heap, known, "", automaton.locations())?;
     let names = Names {
         clocks: clocks.as_slice(),
         positions: positions.as_slice(),
@@ -92,7 +81,9 @@ fn write_output(heap: Global, options: &Options, drawing: &Drawing) -> Result<St
 }
 
 // The text is let go before the search begins.
-fn read(rt: &HostRuntime, options: &Options) -> Result<Drawing, Problem> {
+fn read(rt: &HostRuntime, options: &Options) -> Result<Drawing, Problem>
+    ensures { IfOk result (λ d. (a : Automaton) × Reads d.row.items a) }
+{
     let bytes = input::read(rt, options.source())?;
     texts::read(rt.alloc(), options.form, bytes.as_slice())
 }
@@ -100,10 +91,8 @@ fn read(rt: &HostRuntime, options: &Options) -> Result<Drawing, Problem> {
 fn carry_out(rt: &HostRuntime, options: &Options) -> Result<(), Trouble> {
     let drawing = read(rt, options)?;
     let text = write_output(rt.alloc(), options, &drawing)?;
-    match rt.print(text.as_str()) {
-        Ok(()) => Ok(()),
-        Err(error) => Err(Trouble::Problem(Problem::Unwritable(error))),
-    }
+    rt.print(text.as_str()).map_err(Problem::Unwritable)?;
+    Ok(())
 }
 
 // Whether it went well; where it did not, the reason has been told.

@@ -1,4 +1,5 @@
 // Why no run is shown.
+use accounts::runs::Untold;
 use console::input::Source;
 use console::messages::{Problem, Report};
 use std::alloc::AllocError;
@@ -31,6 +32,15 @@ impl From<Problem> for Trouble {
 impl From<AllocError> for Trouble {
     fn from(_e: AllocError) -> Trouble {
         Trouble::Problem(Problem::Memory)
+    }
+}
+
+impl From<Untold> for Trouble {
+    fn from(untold: Untold) -> Trouble {
+        match untold {
+            Untold::Memory => Trouble::Problem(Problem::Memory),
+            Untold::NoRun(_) => Trouble::Astray,
+        }
     }
 }
 

@@ -1,5 +1,5 @@
-use Rattle.std.proofs.Common.{◌≤◌, vec_len}
+use Rattle.std.proofs.Common.{◌-◌, vec_len}
 use Rattle.drawing.proofs.names.declare_clocks.Given as goal
 
-abbrev pub invariant-loop : goal.invariant-loop
-invariant-loop l = vec_len l.initial.clocks ≤ 8 → vec_len l.clocks ≤ 8
+abbrev pub decreases-loop-cursor : goal.decreases-loop-cursor
+decreases-loop-cursor l = 9 - vec_len l.clocks

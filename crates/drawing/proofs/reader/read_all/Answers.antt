@@ -1,6 +1,0 @@
-use Rattle.std.proofs.Common.{arith}
-use Rattle.drawing.proofs.Sizes.{row_size}
-use Rattle.drawing.proofs.reader.read_all.Goals as goal
-
-pub returns : goal.returns
-returns c = omega (arith, row_size c.loop-index.clockwork, c.loop-index.invariant)
