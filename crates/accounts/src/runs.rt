@@ -1,7 +1,6 @@
 // A run as text: a line for each wait and each step.
 ghost use Rattle.std.specs.Prelude.{◌≡◌, ℕ, min, List, [], length, IfOk, string_bytes, OnOk};
-ghost use Rattle.automata.specs.Automata as automata;
-ghost use Rattle.rows.specs.Views.{Views};
+ghost use Rattle.rows.specs.Views.{automaton_value};
 ghost use Rattle.clockworks.specs.Meaning.{Adds};
 ghost use Rattle.replay.specs.declared.moments.Moment as moments;
 ghost use Rattle.accounts.specs.Lines.{ClocksText, LineText, Lines, Account};
@@ -160,7 +159,7 @@ fn write_lines(
     moves: &[Move],
 ) -> Result<(), Untold>
     requires { string_bytes text.old ≡ [] }
-    ensures { OnOk result ((a : automata.Automaton) → Views automaton.now a → (m : moments.Moment) × Lines a string_bytes names.entry.clocks.now names.entry.positions.now widths.now denominator moves.now m (string_bytes text.new)) }
+    ensures { OnOk result ((m : moments.Moment) × Lines (automaton_value automaton.now) string_bytes names.entry.clocks.now names.entry.positions.now widths.now denominator moves.now m (string_bytes text.new)) }
 {
     let mut moment = begin(automaton)?;
     for next in moves {
@@ -178,7 +177,7 @@ pub fn write_run(
     denominator: u64,
     moves: &[Move],
 ) -> Result<String, Untold>
-    ensures { IfOk result (λ text. (a : automata.Automaton) → Views automaton.now a → Account a string_bytes names.entry.clocks.now names.entry.positions.now denominator moves.now (string_bytes text)) }
+    ensures { IfOk result (λ text. Account (automaton_value automaton.now) string_bytes names.entry.clocks.now names.entry.positions.now denominator moves.now (string_bytes text)) }
 {
     let widths = measure(heap, automaton, names, denominator, moves)?;
     let mut text = String::new(heap);
