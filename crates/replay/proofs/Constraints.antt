@@ -41,18 +41,3 @@ Steps s r t = NextConstraint (constraints_value s.words.now) r (constraints_valu
 
 pub yields : (s : Constraints) → YieldsList Steps constraint_value s (constraints_value s.words.now)
 yields = YieldsList-from_shown Steps constraint_value (λ s. constraints_value s.words.now) (λ s t e. ap length e) (λ s x t e. e)
-
-relation_back : (r : Relation) → relation_of (code r) ≡ r
-relation_back at_most = refl
-relation_back below = refl
-relation_back at_least = refl
-relation_back above = refl
-
-pub written : (cs : List Constraint) → constraints_value (write_constraints cs) ≡ cs
-written [] = refl
-written (c ∷ cs) =
-    ap (λ (r : Relation). record { clock = c.clock; relation = r; bound = c.bound } ∷ constraints_value (write_constraints cs)) (relation_back c.relation)
-    ∙ ap (λ (ds : List Constraint). c ∷ ds) (written cs)
-
-pub written_as : (ws : List ℕ) (cs : List Constraint) → ws ≡ write_constraints cs → constraints_value ws ≡ cs
-written_as ws cs e = ap constraints_value e ∙ written cs

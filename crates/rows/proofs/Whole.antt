@@ -1,5 +1,5 @@
 -- A whole row: what its parts say of it.
-use Rattle.std.proofs.Common.{◌≡◌, ℕ, ◌+◌, ◌<◌, ◌≤◌, Bool, true, false, cond, ◌&&◌, leb, List, [], ◌∷◌, ◌++◌, length, get_or, drop, Ok, Err, Result, sym, refl, ap, ◌∙◌, subst, arith, le-leb, leb-true}
+use Rattle.std.proofs.Common.{◌≡◌, ℕ, ◌+◌, ◌<◌, ◌≤◌, Bool, true, false, cond, ◌&&◌, leb, List, [], ◌∷◌, ◌++◌, length, get_or, drop, Ok, Err, Result, sym, refl, subst, arith, le-leb, leb-true}
 use mathlib.Core.Option.{Option, some, none}
 use borrow.Author.Tests.{lt-leb}
 use Rattle.automata.specs.Automata.{Constraint, Edge, Automaton}
@@ -8,8 +8,10 @@ use Rattle.rows.specs.declared.refusals.Refusal.{Refusal}
 use Rattle.rows.specs.declared.views.Automaton as view
 use Rattle.rows.specs.Parse.{all_relations, parse_conjunction, parse_invariants, parse_resets, parse_edge, parse_edges, parse}
 use Rattle.rows.specs.Reading.{Wrong, Tells, ReadPost}
-use Rattle.rows.specs.Views.{Made}
+use Rattle.rows.specs.Viewed.{value_of, Viewed}
+use Rattle.rows.specs.Views.{automaton_value}
 use Rattle.rows.proofs.Round.{joined, complete, sound, one_automaton, Written, written_invariants, written_edges}
+use Rattle.rows.proofs.Values.{value_of-is, views}
 use Rattle.rows.proofs.Walking.{edge-resets, edge-read}
 
 -- an edge ends where its resets end
@@ -125,8 +127,8 @@ parse-row (c ∷ p ∷ ws) css rest es end h i j k l m e f =
     rw
     (joined (leb 1 c && leb c 8) ((leb 1 p && leb p 256) && leb (length (c ∷ p ∷ ws)) 16384) (range_true 1 c 8 j k) (joined (leb 1 p && leb p 256) (leb (length (c ∷ p ∷ ws)) 16384) (range_true 1 p 256 l m) (le-leb (length (c ∷ p ∷ ws)) 16384 i)), e, f)
 
--- a row that is read is viewed as its automaton
-pub accepted : (row : List ℕ) (v : view.Automaton) (css : List (List Constraint)) (at : ℕ) (es : List Edge) (end : List ℕ)
+-- a row that is read is the writing of the automaton that it stands for
+pub viewed : (row : List ℕ) (css : List (List Constraint)) (at : ℕ) (es : List Edge) (end : List ℕ)
     → 2 ≤ length row
     → length row ≤ 16384
     → 1 ≤ get_or row 0 0
@@ -135,25 +137,16 @@ pub accepted : (row : List ℕ) (v : view.Automaton) (css : List (List Constrain
     → get_or row 1 0 ≤ 256
     → parse_invariants (get_or row 0 0) (get_or row 1 0) (drop 2 row) ≡ some (css, drop at row)
     → parse_edges (get_or row 0 0) (get_or row 1 0) (length (drop at row)) (drop at row) ≡ some (es, end)
-    → Made row (get_or row 0 0) (get_or row 1 0) at v
-    → ReadPost row (Ok v)
-accepted row v css at es end h i j k l m e f made =
+    → Viewed row (get_or row 0 0) (get_or row 1 0) at (value_of row)
+viewed row css at es end h i j k l m e f =
     let a : Automaton = record { clocks = get_or row 0 0; invariants = css; edges = es } in
     let reads : Reads row a = sound row a (parse-row row css (drop at row) es end h i j k l m e f) in
     let w = subst (Written (λ css rest. (write_invariants css ++ rest ≡ drop 2 row) × (length css ≡ get_or row 1 0) × (fine_invariants (get_or row 0 0) css ≡ true))) e (written_invariants (get_or row 0 0) (get_or row 1 0) (drop 2 row)) in
     let u = subst (Written (λ es rest. (rest ≡ []) × (write_edges es ≡ drop at row) × (fine_edges (get_or row 0 0) (get_or row 1 0) es ≡ true))) f (written_edges (get_or row 0 0) (get_or row 1 0) (length (drop at row)) (drop at row)) in
-    record {
-      cases = (
-        made.row_is,
-        (
-          a,
-          record {
-            reads = subst (λ (z : List ℕ). Reads z a) (sym made.row_is) reads;
-            clocks = made.clocks_are;
-            locations = made.locations_are ∙ sym w.1;
-            edges = ap (drop v.edges) made.row_is ∙ ap (λ (z : ℕ). drop z row) made.edges_at ∙ sym u.1;
-          },
-        ),
-      );
-      one = one_automaton;
-    }
+    subst
+    (Viewed row (get_or row 0 0) (get_or row 1 0) at)
+    (sym (value_of-is row a reads))
+    (record { reads = reads; clocks_are = refl; locations_are = sym w.1; edges_are = sym u.1 })
+
+pub accepted : (row : List ℕ) (v : view.Automaton) → v.row.now ≡ row → ReadPost row (Ok v)
+accepted row v same = record { cases = (same, (automaton_value v, views v)); one = one_automaton }
