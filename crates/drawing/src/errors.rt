@@ -3,7 +3,7 @@ ghost use Rattle.std.specs.Prelude.{◌≡◌, ◌+◌, ◌≤◌, length, Some,
 ghost use Rattle.drawing.specs.Words.{text_of};
 ghost use Rattle.drawing.specs.Places.{newline_count, last_line_len as last_line_len_lem};
 
-use clockworks::rows::Unfit;
+use clockworks::write::Unfit;
 use std::error::Error;
 use std::fmt;
 
@@ -51,7 +51,7 @@ pub enum Found {
     Unfit(Unfit),
 }
 
-// The signs of a drawing.
+// The signs of a drawing. Those of relations are no `Relation` here: a line is cut by the text of a sign, which rows only prints.
 #[derive(Clone, Copy, Debug, PartialEq, Eq)]
 pub enum Sign {
     Colon,

@@ -9,7 +9,6 @@ use Rattle.search.specs.declared.answers.Answer.{Answer}
 use Rattle.search.specs.declared.answers.Answer.TheVariants.{At, After, Never}
 use Rattle.search.specs.declared.answers.Table.{Table}
 use Rattle.search.specs.Answering.{AnswerIs, TableIs}
-use Rattle.search.specs.Firsts.{FirstsKnown}
 use Rattle.search.specs.Least.{region_at, LeastPost}
 use Rattle.realise.specs.declared.arrivals.Arrival.{Arrival}
 use Rattle.realise.specs.declared.arrivals.Arrival.TheVariants as arrival
@@ -37,4 +36,4 @@ WitnessIs v t l part None =
     (row : List ℕ) (kinds : ℕ) (a : automata.Automaton) → TableIs row kinds t a → theory.Never a l
 WitnessIs v t l part (Some w) =
     ((a : automata.Automaton) → Views v a → Realised a l w.arrival w.run)
-    × ((row : List ℕ) (kinds : ℕ) (a : automata.Automaton) → TableIs row kinds t a → FirstsKnown t → ToldBy t l part a w)
+    × ((row : List ℕ) (kinds : ℕ) (a : automata.Automaton) → TableIs row kinds t a → ToldBy t l part a w)
