@@ -1,3 +1,4 @@
 -- Runs and bounds as text.
 pub mod Lines
 pub mod Bounds
+pub mod Subjects

@@ -15,6 +15,28 @@ pub struct Widths {
     pub clocks: [usize; CLOCKS],
 }
 
+impl Widths {
+    pub const NONE: Widths = Widths {
+        moves: 0,
+        times: 0,
+        positions: 0,
+        clocks: [0; CLOCKS],
+    };
+
+    // The widths with no blanks after the last of so many clocks.
+    pub fn without_last(self, clocks: usize) -> Widths {
+        let mut widths = self;
+        if let Some(last) = clocks.checked_sub(1) {
+            if let Some(width) = widths.clocks.get_mut(last) {
+                *width = 0;
+            }
+        }
+        widths
+    }
+}
+
+// By hand: std's `{cell:<width$}` counts the characters by their first bytes, and the proof that these are as many as `chars`
+// has did not close.
 fn write_blanks(text: &mut String, count: usize) -> Result<(), AllocError>
     ensures { OnOk result (Adds (string_bytes text.old) (blanks count) (string_bytes text.new)) }
 {

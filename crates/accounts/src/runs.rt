@@ -4,7 +4,7 @@ ghost use Rattle.automata.specs.Automata as automata;
 ghost use Rattle.rows.specs.Views.{Views};
 ghost use Rattle.clockworks.specs.Meaning.{Adds};
 ghost use Rattle.replay.specs.declared.moments.Moment as moments;
-ghost use Rattle.accounts.specs.Lines.{ClocksText, LineText, Lines, Account};
+ghost use Rattle.accounts.specs.Lines.{name_of, ClocksText, LineText, Lines, Account};
 
 use crate::columns::{Widths, write_padded};
 use crate::names::{Names, name_of};
@@ -43,131 +43,105 @@ fn wider(width: usize, cell: &str) -> usize {
     width.max(cell.chars().count().min(MOST_COLUMNS))
 }
 
-// The widths of columns with one more line.
-fn widths_with(
+// What the lines of a run are told by.
+#[derive(Clone, Copy)]
+struct Teller<'a> {
     heap: Global,
-    widths: Widths,
-    names: Names<'_>,
+    automaton: Automaton<'a>,
+    names: Names<'a>,
     denominator: u64,
-    by: Move,
-    after: &Moment,
-) -> Result<Widths, AllocError> {
-    let mut clocks = widths.clocks;
-    for clock in 0..names.clocks.len().min(CLOCKS) {
-        let name = name_of(names.clocks, clock);
-        let cell = clock_cell(heap, name, denominator, after.clocks[clock])?;
-        clocks[clock] = wider(clocks[clock], cell.as_str());
-    }
-    let moved = move_cell(heap, denominator, by)?;
-    let time = time_cell(heap, denominator, after.time)?;
-    let position = name_of(names.positions, after.location.0 as usize);
-    Ok(Widths {
-        moves: wider(widths.moves, moved.as_str()),
-        times: wider(widths.times, time.as_str()),
-        positions: wider(widths.positions, position),
-        clocks,
-    })
 }
 
-// The widths of columns with no blanks after the last.
-fn without_last(widths: Widths, clocks: usize) -> Widths {
-    let mut widest = widths.clocks;
-    if 0 < clocks && clocks <= CLOCKS {
-        widest[clocks - 1] = 0;
+impl<'a> Teller<'a> {
+    // The name of a moment's position.
+    fn position(&self, moment: &Moment) -> &'a str
+        ensures { result.now ≡ name_of string_bytes self.now.names.positions.now moment.now.location.0 }
+    {
+        name_of(self.names.positions, moment.location.0 as usize)
     }
-    Widths {
-        moves: widths.moves,
-        times: widths.times,
-        positions: widths.positions,
-        clocks: widest,
-    }
-}
 
-// The widths of the columns of a run.
-fn measure(
-    heap: Global,
-    automaton: &Automaton,
-    names: Names<'_>,
-    denominator: u64,
-    moves: &[Move],
-) -> Result<Widths, Untold> {
-    let mut widths = Widths {
-        moves: 0,
-        times: 0,
-        positions: 0,
-        clocks: [0; CLOCKS],
-    };
-    let mut moment = begin(automaton)?;
-    for next in moves {
-        moment = advance(automaton, denominator, &moment, *next)?;
-        widths = widths_with(heap, widths, names, denominator, *next, &moment)?;
+    // The widths of columns with one more line.
+    fn widths_with(&self, widths: Widths, by: Move, after: &Moment) -> Result<Widths, AllocError> {
+        let mut clocks = widths.clocks;
+        let cells = self.names.clocks.iter().zip(after.clocks.iter());
+        for (width, (name, value)) in clocks.iter_mut().zip(cells) {
+            let cell = clock_cell(self.heap, name.as_str(), self.denominator, *value)?;
+            *width = wider(*width, cell.as_str());
+        }
+        let moved = move_cell(self.heap, self.denominator, by)?;
+        let time = time_cell(self.heap, self.denominator, after.time)?;
+        Ok(Widths {
+            moves: wider(widths.moves, moved.as_str()),
+            times: wider(widths.times, time.as_str()),
+            positions: wider(widths.positions, self.position(after)),
+            clocks,
+        })
     }
-    Ok(without_last(widths, names.clocks.len()))
-}
 
-fn write_clocks(
-    heap: Global,
-    text: &mut String,
-    names: &[String],
-    widths: &Widths,
-    denominator: u64,
-    moment: &Moment,
-) -> Result<(), AllocError>
-    ensures { OnOk result ((words : List ℕ) × ClocksText string_bytes names.now widths.now denominator moment.now (min (length names.now) 8) words × Adds (string_bytes text.old) words (string_bytes text.new)) }
-{
-    for clock in 0..names.len().min(CLOCKS) {
-        let name = name_of(names, clock);
-        let cell = clock_cell(heap, name, denominator, moment.clocks[clock])?;
+    // The widths of the columns of a run.
+    fn measure(&self, moves: &[Move]) -> Result<Widths, Untold> {
+        let mut widths = Widths::NONE;
+        let mut moment = begin(&self.automaton)?;
+        for next in moves {
+            moment = advance(&self.automaton, self.denominator, &moment, *next)?;
+            widths = self.widths_with(widths, *next, &moment)?;
+        }
+        Ok(widths.without_last(self.names.clocks.len()))
+    }
+
+    // The cells of the clocks. By their numbers, which pick from three lists.
+    fn write_clocks(
+        &self,
+        text: &mut String,
+        widths: &Widths,
+        moment: &Moment,
+    ) -> Result<(), AllocError>
+        ensures { OnOk result ((words : List ℕ) × ClocksText string_bytes self.now.names.clocks.now widths.now self.now.denominator moment.now (min (length self.now.names.clocks.now) 8) words × Adds (string_bytes text.old) words (string_bytes text.new)) }
+    {
+        for clock in 0..self.names.clocks.len().min(CLOCKS) {
+            let name = name_of(self.names.clocks, clock);
+            let cell = clock_cell(self.heap, name, self.denominator, moment.clocks[clock])?;
+            write!(text, "  ")?;
+            write_padded(text, cell.as_str(), widths.clocks[clock])?;
+        }
+        Ok(())
+    }
+
+    // A move, and the time, the position and the clocks after it.
+    fn write_line(
+        &self,
+        text: &mut String,
+        widths: &Widths,
+        by: Move,
+        after: &Moment,
+    ) -> Result<(), AllocError>
+        ensures { OnOk result ((line : List ℕ) × LineText string_bytes self.now.names.clocks.now self.now.names.positions.now widths.now self.now.denominator by after.now line × Adds (string_bytes text.old) line (string_bytes text.new)) }
+    {
+        let moved = move_cell(self.heap, self.denominator, by)?;
+        let time = time_cell(self.heap, self.denominator, after.time)?;
+        let position = self.position(after);
+        write_padded(text, moved.as_str(), widths.moves)?;
         write!(text, "  ")?;
-        write_padded(text, cell.as_str(), widths.clocks[clock])?;
+        write_padded(text, time.as_str(), widths.times)?;
+        write!(text, "  ")?;
+        write_padded(text, position, widths.positions)?;
+        self.write_clocks(text, widths, after)?;
+        write!(text, "\n")?;
+        Ok(())
     }
-    Ok(())
-}
 
-// A move, and the time, the position and the clocks after it.
-fn write_line(
-    heap: Global,
-    text: &mut String,
-    names: Names<'_>,
-    widths: &Widths,
-    denominator: u64,
-    by: Move,
-    after: &Moment,
-) -> Result<(), AllocError>
-    ensures { OnOk result ((line : List ℕ) × LineText string_bytes names.entry.clocks.now names.entry.positions.now widths.now denominator by after.now line × Adds (string_bytes text.old) line (string_bytes text.new)) }
-{
-    let moved = move_cell(heap, denominator, by)?;
-    let time = time_cell(heap, denominator, after.time)?;
-    let position = name_of(names.positions, after.location.0 as usize);
-    write_padded(text, moved.as_str(), widths.moves)?;
-    write!(text, "  ")?;
-    write_padded(text, time.as_str(), widths.times)?;
-    write!(text, "  ")?;
-    write_padded(text, position, widths.positions)?;
-    write_clocks(heap, text, names.clocks, widths, denominator, after)?;
-    write!(text, "\n")?;
-    Ok(())
-}
-
-// The lines of a run in columns, and the moment at which it ends.
-fn write_lines(
-    heap: Global,
-    text: &mut String,
-    automaton: &Automaton,
-    names: Names<'_>,
-    widths: &Widths,
-    denominator: u64,
-    moves: &[Move],
-) -> Result<(), Untold>
-    requires { string_bytes text.old ≡ [] }
-    ensures { OnOk result ((a : automata.Automaton) → Views automaton.now a → (m : moments.Moment) × Lines a string_bytes names.entry.clocks.now names.entry.positions.now widths.now denominator moves.now m (string_bytes text.new)) }
-{
-    let mut moment = begin(automaton)?;
-    for next in moves {
-        moment = advance(automaton, denominator, &moment, *next)?;
-        write_line(heap, text, names, widths, denominator, *next, &moment)?;
+    // The lines of a run in columns.
+    fn write_lines(&self, text: &mut String, widths: &Widths, moves: &[Move]) -> Result<(), Untold>
+        requires { string_bytes text.old ≡ [] }
+        ensures { OnOk result ((a : automata.Automaton) → Views self.now.automaton a → (m : moments.Moment) × Lines a string_bytes self.now.names.clocks.now self.now.names.positions.now widths.now self.now.denominator moves.now m (string_bytes text.new)) }
+    {
+        let mut moment = begin(&self.automaton)?;
+        for next in moves {
+            moment = advance(&self.automaton, self.denominator, &moment, *next)?;
+            self.write_line(text, widths, *next, &moment)?;
+        }
+        Ok(())
     }
-    Ok(())
 }
 
 // The lines of a run, of which each move is gone through again.
@@ -180,16 +154,14 @@ pub fn write_run(
 ) -> Result<String, Untold>
     ensures { IfOk result (λ text. (a : automata.Automaton) → Views automaton.now a → Account a string_bytes names.entry.clocks.now names.entry.positions.now denominator moves.now (string_bytes text)) }
 {
-    let widths = measure(heap, automaton, names, denominator, moves)?;
-    let mut text = String::new(heap);
-    write_lines(
+    let teller = Teller {
         heap,
-        &mut text,
-        automaton,
+        automaton: *automaton,
         names,
-        &widths,
         denominator,
-        moves,
-    )?;
+    };
+    let widths = teller.measure(moves)?;
+    let mut text = String::new(heap);
+    teller.write_lines(&mut text, &widths, moves)?;
     Ok(text)
 }

@@ -84,10 +84,8 @@ fn check_lines(report: &mut Report, text: &str, positions: &[String]) -> Result<
         let Some(rest) = line.strip_prefix(MARK) else {
             continue;
         };
-        let known = Expectation::parse(rest).is_some_and(|expectation| expectation.is_about_one_of(
-            positions,
-        ));
-        if !known {
+        let said = Expectation::parse(rest);
+        if !said.is_some_and(|said| said.is_about_one_of(positions)) {
             report.fault(line)?;
         }
     }

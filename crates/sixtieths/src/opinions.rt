@@ -12,7 +12,8 @@ use std::alloc::Global;
 // As many kinds of states are allowed, which is more than any automaton has that is asked about here.
 pub const KINDS: u32 = 16_384;
 
-// The words that `explore` asks for: as many for any row, for a word of the row, and for a kind.
+// The words that `explore` asks for: as many for any row, for a word of the row, and for a kind. They stand here again, since the
+// search keeps them to itself, and what it is lent shall not depend on it.
 const WORDS: usize = 65_536;
 
 const WORDS_FOR_A_WORD: usize = 8;
