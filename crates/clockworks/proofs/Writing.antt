@@ -4,13 +4,13 @@ use lib.ListN.{length-map}
 use Rattle.std.specs.List.{flat_map, list_all}
 use Rattle.std.proofs.lemmas.List.{take_more, take_all}
 use Rattle.std.proofs.lemmas.Bool.{and_from, and_parts, le-leb}
-use Rattle.automata.specs.Rows.{Reads, write, upper, write_constraints, write_invariants, write_edges, fine_constraint, fine_guard, fine_invariant, fine_invariants, fine_resets, fine_edge, fine_edges}
+use Rattle.automata.specs.Rows.{Reads, upper, write_constraints, write_invariants, write_edges, fine_constraint, fine_guard, fine_invariant, fine_invariants, fine_resets, fine_edge, fine_edges}
 use Rattle.rows.specs.declared.constraints.Constraint.{Constraint as Test}
 use Rattle.rows.specs.Parts.{relation_value, constraint_value}
 use Rattle.clockworks.specs.declared.parts.Position.{Position}
 use Rattle.clockworks.specs.declared.parts.Step.{Step}
 use Rattle.clockworks.specs.declared.parts.Clockwork.{Clockwork}
-use Rattle.clockworks.specs.declared.rows.Writer.{Writer}
+use Rattle.clockworks.specs.declared.write.Writer.{Writer}
 use Rattle.clockworks.specs.Meaning.{constraints, invariant_of, edge, automaton, Adds, Wrote, test_words, tests_words, resets_words, position_words, step_words, all_upper}
 
 pub adds_more : {xs vs ys ws zs : List ℕ} → Adds xs vs ys → Adds ys ws zs → Adds xs (vs ++ ws) zs

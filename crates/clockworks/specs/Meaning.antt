@@ -8,7 +8,7 @@ use Rattle.rows.specs.Parts.{relation_value, constraint_value}
 use Rattle.clockworks.specs.declared.parts.Position.{Position}
 use Rattle.clockworks.specs.declared.parts.Step.{Step}
 use Rattle.clockworks.specs.declared.parts.Clockwork.{Clockwork}
-use Rattle.clockworks.specs.declared.rows.Writer.{Writer}
+use Rattle.clockworks.specs.declared.write.Writer.{Writer}
 
 abbrev pub constraints : List Test → List Constraint
 constraints ts = map constraint_value ts

@@ -2,5 +2,5 @@
 #![tactic(auto)]
 
 pub mod parts;
-pub mod rows;
 pub mod split;
+pub mod write;

@@ -4,7 +4,7 @@ ghost use Rattle.automata.specs.Rows.{Reads};
 ghost use Rattle.clockworks.specs.Meaning.{automaton};
 
 use crate::parts::{Clock, Clockwork, Position, Relation, Step, Test};
-use crate::rows::{Unfit, write_row};
+use crate::write::{Unfit, write_row};
 use std::alloc::Global;
 
 // The numbers of a row that are still to be read.

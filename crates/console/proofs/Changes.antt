@@ -161,13 +161,6 @@ start_same {xs = xs} {ws = ws} p q c = subst (λ (l : List ℕ). StartChange l w
 pub change_same : {xs ys vs ws : List ℕ} → xs ≡ vs → ys ≡ ws → OneChange xs ys → OneChange vs ws
 change_same {xs = xs} {ws = ws} p q c = subst (λ (l : List ℕ). OneChange l ws) p (subst (λ (l : List ℕ). OneChange xs l) q c)
 
--- where three of the four changes at the start are not so
-pub only_swapped : (xs ys : List ℕ) (r : Bool) → (drop 1 xs ≡ drop 1 ys → ⊥) → (drop 1 xs ≡ ys → ⊥) → (xs ≡ drop 1 ys → ⊥) → (Swapped xs ys → r ≡ true) → StartChange xs ys → r ≡ true
-only_swapped xs ys r no_change none_left none-put swap (changed e) = absurd (no_change e)
-only_swapped xs ys r no_change none_left none-put swap (left_out e) = absurd (none_left e)
-only_swapped xs ys r no_change none_left none-put swap (put_in e) = absurd (none-put e)
-only_swapped xs ys r no_change none_left none-put swap (swapped e) = swap e
-
 -- where the case of letters is not all that is different
 pub only_changed : (xs ys : List ℕ) (r : Bool) → (map to_ascii_lowercase xs ≡ map to_ascii_lowercase ys → ⊥) → (OneChange (chars xs) (chars ys) → r ≡ true) → Nearly xs ys → r ≡ true
 only_changed xs ys r other change (inl e) = absurd (other e)

@@ -1,12 +1,112 @@
--- A word of digits that is read digit by digit.
-use Rattle.std.proofs.Common.{◌≡◌, ℕ, ◌+◌, ◌<◌, List, [], ◌∷◌, length, get_or, drop, Some, Option, sym, refl, ap, ◌∙◌}
-use Rattle.std.proofs.lemmas.List.{at_drop_more}
+-- A word of digits: what the library reads of it is the number that is put together digit by digit.
+use Rattle.std.proofs.Common.{◌≡◌, ℕ, ◌+◌, ◌-◌, ◌*◌, ◌<◌, ◌≤◌, ◌^◌, true, false, List, [], ◌∷◌, ◌++◌, length, get_or, Some, None, Option, sym, refl, ap, ◌∙◌, arith, rules, ◌&&◌, Bool, ltb, Result, Ok, Err, Bor}
+use Rattle.std.specs.Char.{is_ascii_digit}
+use Rattle.std.specs.Result.{MatchResult, OkIff, result_ok}
+use Rattle.std.specs.Str.{all_ascii_digits, IsUtf8}
+use Rattle.std.proofs.lemmas.Fmt.{IsAscii-from_digits}
+use Rattle.std.proofs.lemmas.Str.{IsUtf8-from_ascii}
+use Rattle.std.proofs.lemmas.Bool.{ltb-true, ltb-false}
+use Rattle.std.proofs.lemmas.Bool.Decides.{nat_tests}
+use Rattle.std.proofs.lemmas.Str.Parse.{IsNumeralModel, numerals_by_fold}
 use Rattle.console.specs.Numbers.{digit_pushed, push_all, number_of}
+use Rattle.console.proofs.Truth.{not-true}
 
-pub digits_more : (word : List ℕ) (n i : ℕ) (o : Option ℕ) → i < length word → o ≡ digit_pushed n (get_or word i 0) → push_all (Some n) (drop i word) ≡ push_all o (drop (i + 1) word)
-digits_more word n i o lt is =
-    at_drop_more (push_all (Some n)) word i 0 lt ∙ ap (λ (p : Option ℕ). push_all p (drop (i + 1) word)) (sym is)
+-- the number that digits go on with
+abbrev pub read_on : ℕ → List ℕ → ℕ
+read_on n [] = n
+read_on n (c ∷ cs) = read_on (n * 10 + (c - 48)) cs
 
-pub some_digits : (word : List ℕ) → (length word ≡ 0 → ⊥) → number_of word ≡ push_all (Some 0) word
-some_digits [] ne = absurd (ne refl)
-some_digits (b ∷ bs) ne = refl
+pub numerals : IsNumeralModel (λ ds. all_ascii_digits ds ≡ true) (read_on 0)
+numerals = numerals_by_fold _ (search rules) read_on (search rules)
+
+read_more : (cs : List ℕ) (n : ℕ) → n ≤ read_on n cs
+read_more [] n = omega arith
+read_more (c ∷ cs) n = let rest = read_more cs (n * 10 + (c - 48)) in omega arith
+
+pushed-digit : (n c : ℕ) → is_ascii_digit c ≡ true → n * 10 + (c - 48) < 4294967296 → digit_pushed n c ≡ Some (n * 10 + (c - 48))
+pushed-digit n c d fits = grind (arith, nat_tests)
+
+pushed-beyond : (n c : ℕ) → 4294967296 ≤ n * 10 + (c - 48) → digit_pushed n c ≡ None
+pushed-beyond n c past = grind (arith, nat_tests)
+
+pushed-none : (n c : ℕ) → is_ascii_digit c ≡ false → digit_pushed n c ≡ None
+pushed-none n c d = grind (arith, nat_tests)
+
+first_true : (a b : Bool) → (a && b) ≡ true → a ≡ true
+first_true true b e = refl
+first_true false b e = e
+
+second_true : (a b : Bool) → (a && b) ≡ true → b ≡ true
+second_true true b e = e
+second_true false b e = absurd (not-true e)
+
+push_reads : (cs : List ℕ) (n : ℕ) → all_ascii_digits cs ≡ true → read_on n cs < 4294967296 → push_all (Some n) cs ≡ Some (read_on n cs)
+push_reads [] n d fits = refl
+push_reads (c ∷ cs) n d fits =
+    let more = read_more cs (n * 10 + (c - 48)) in
+    let here = pushed-digit n c (first_true _ _ d) (omega arith) in
+    ap (λ (o : Option ℕ). push_all o cs) here ∙ push_reads cs (n * 10 + (c - 48)) (second_true _ _ d) fits
+
+push_any : (o : Option ℕ) (cs : List ℕ) → ((m : ℕ) → push_all (Some m) cs ≡ None) → push_all o cs ≡ None
+push_any None cs h = refl
+push_any (Some m) cs h = h m
+
+other_here : (c n : ℕ) (cs : List ℕ) (a : Bool) → is_ascii_digit c ≡ a → (a && all_ascii_digits cs) ≡ false → (all_ascii_digits cs ≡ false → (m : ℕ) → push_all (Some m) cs ≡ None) → push_all (digit_pushed n c) cs ≡ None
+other_here c n cs true e d later = push_any (digit_pushed n c) cs (later d)
+other_here c n cs false e d later = ap (λ (o : Option ℕ). push_all o cs) (pushed-none n c e)
+
+push_other : (cs : List ℕ) (n : ℕ) → all_ascii_digits cs ≡ false → push_all (Some n) cs ≡ None
+push_other [] n d = absurd (not-true (sym d))
+push_other (c ∷ cs) n d = other_here c n cs (is_ascii_digit c) refl d (λ e m. push_other cs m e)
+
+large_here : (c n : ℕ) (cs : List ℕ) (b : Bool) → ltb (n * 10 + (c - 48)) 4294967296 ≡ b → is_ascii_digit c ≡ true → (n * 10 + (c - 48) < 4294967296 → push_all (Some (n * 10 + (c - 48))) cs ≡ None) → push_all (digit_pushed n c) cs ≡ None
+large_here c n cs true e d later =
+    let fits = ltb-true _ _ e in ap (λ (o : Option ℕ). push_all o cs) (pushed-digit n c d fits) ∙ later fits
+large_here c n cs false e d later = ap (λ (o : Option ℕ). push_all o cs) (pushed-beyond n c (ltb-false _ _ e))
+
+push_large : (cs : List ℕ) (n : ℕ) → all_ascii_digits cs ≡ true → n < 4294967296 → 4294967296 ≤ read_on n cs → push_all (Some n) cs ≡ None
+push_large [] n d small large = absurd (omega arith)
+push_large (c ∷ cs) n d small large =
+    large_here c n cs (ltb (n * 10 + (c - 48)) 4294967296) refl (first_true _ _ d)
+    (λ fits. push_large cs (n * 10 + (c - 48)) (second_true _ _ d) fits large)
+
+some_number : (bs : List ℕ) → all_ascii_digits bs ≡ true → 0 < length bs → read_on 0 bs < 4294967296 → number_of bs ≡ Some (read_on 0 bs)
+some_number [] d more fits = absurd (omega arith)
+some_number (b ∷ bs) d more fits = push_reads (b ∷ bs) 0 d fits
+
+none_where : (b : ℕ) (bs : List ℕ) (a f : Bool) → all_ascii_digits (b ∷ bs) ≡ a → ltb (read_on 0 (b ∷ bs)) 4294967296 ≡ f → ((all_ascii_digits (b ∷ bs) ≡ true) × (0 < length (b ∷ bs)) × (read_on 0 (b ∷ bs) < 2 ^ 32) → ⊥) → number_of (b ∷ bs) ≡ None
+none_where b bs false f d e none = push_other (b ∷ bs) 0 d
+none_where b bs true false d e none = push_large (b ∷ bs) 0 d (omega arith) (ltb-false _ _ e)
+none_where b bs true true d e none = absurd (none (d, omega arith, ltb-true _ _ e))
+
+no_number : (bs : List ℕ) → ((all_ascii_digits bs ≡ true) × (0 < length bs) × (read_on 0 bs < 2 ^ 32) → ⊥) → number_of bs ≡ None
+no_number [] none = refl
+no_number (b ∷ bs) none =
+    none_where b bs (all_ascii_digits (b ∷ bs)) (ltb (read_on 0 (b ∷ bs)) 4294967296) refl refl none
+
+-- what the library reads of a text of digits
+pub parsed : {E : Type 0} (bs : List ℕ) (r : Result ℕ E) → OkIff r ((all_ascii_digits bs ≡ true) × (0 < length bs) × (read_on 0 bs < 2 ^ 32)) (read_on 0 bs) → result_ok r ≡ number_of bs
+parsed bs (Ok x) h = ap Some h.1 ∙ sym (some_number bs h.0.0 h.0.1 h.0.2)
+parsed bs (Err e) h = sym (no_number bs h)
+
+-- what is no number
+pub plus_first : (bs rest : List ℕ) → bs ≡ 43 ∷ rest → number_of bs ≡ None
+plus_first bs rest e = ap number_of e
+
+pub other_bytes : (bs : List ℕ) → (IsUtf8 bs → ⊥) → number_of bs ≡ None
+other_bytes bs none =
+    no_number bs (λ h. none (IsUtf8-from_ascii bs (IsAscii-from_digits bs (numerals.to bs h.0))))
+
+-- a text that does not begin with a plus
+pub no_plus : (bs : List ℕ) (r : Bool) → ((rest : List ℕ) → bs ≡ (43 ∷ []) ++ rest → r ≡ true) → r ≡ false → get_or bs 0 0 ≡ 43 → ⊥
+no_plus [] r all e h = omega arith
+no_plus (b ∷ bs) r all e h = not-true (sym e ∙ all bs (ap (λ (x : ℕ). x ∷ bs) h))
+
+-- what was read of bytes, as text
+pub not_text : {E : Type 0} (X : E → Type 0) (bs : List ℕ) (r : Result (Bor (List ℕ)) E) → None ≡ result_ok r → MatchResult r (λ s. (s.now ≡ bs) × IsUtf8 bs) (λ e. (IsUtf8 bs → ⊥) × X e) → IsUtf8 bs → ⊥
+not_text X bs (Ok s) e h = cc
+not_text X bs (Err f) e h = h.0
+
+pub same_text : {E : Type 0} (X : E → Type 0) (bs : List ℕ) (s : Bor (List ℕ)) (r : Result (Bor (List ℕ)) E) → Some s ≡ result_ok r → MatchResult r (λ t. (t.now ≡ bs) × IsUtf8 bs) X → s.now ≡ bs
+same_text X bs s (Ok t) e h = let one : s ≡ t = cc in ap (λ (b : Bor (List ℕ)). b.now) one ∙ h.0
+same_text X bs s (Err f) e h = cc

@@ -2,12 +2,11 @@
 use Rattle.std.specs.Fmt.{char_count, format_spec, padded, styled_text, take_chars}
 use Rattle.std.specs.List.{repeat}
 use lib.Utf8.{encode}
-use Rattle.std.proofs.Common.{◌≡◌, ℕ, zero, suc, ◌-◌, ◌<◌, ◌≤◌, Bool, true, false, cond, ◌&&◌, eqb, true-eqb, List, [], ◌∷◌, ◌++◌, map, length, get_or, drop, codes, decimal, sym, refl, ap, ◌∙◌, append-nil, arith}
+use Rattle.std.proofs.Common.{◌≡◌, ℕ, zero, suc, ◌-◌, ◌<◌, Bool, true, false, cond, ◌&&◌, eqb, true-eqb, List, [], ◌++◌, map, length, get_or, codes, decimal, sym, refl, ap, ◌∙◌, arith}
 use Rattle.std.proofs.lemmas.List.{get_or-map}
-use Rattle.clockworks.specs.Meaning.{Adds}
 use Rattle.clockworks.proofs.Writing.{Walk}
 use Rattle.console.specs.Answers.{blanks}
-use Rattle.console.specs.Rows.{more_numbers, numbers_text}
+use Rattle.console.specs.Rows.{more_numbers}
 
 one_blank_first : (n : ℕ) → blanks n ++ codes " " ≡ codes " " ++ blanks n
 one_blank_first zero = refl
@@ -36,14 +35,3 @@ read_map f xs i x d lt is = get_or-map f xs i x d lt ∙ ap f (sym is)
 
 pub numbers_walk : Walk (λ n. codes " " ++ decimal n) more_numbers (λ _. true) (λ _. true)
 numbers_walk = record { no_words = refl; more_words = λ _ _. refl; none_fits = refl; more_fit = λ _ _. refl }
-
-pub adds_none : {xs : List ℕ} → Adds xs [] xs
-adds_none {xs = xs} = record { longer = sym (append-nil xs) }
-
-pub numbers-none : (ns : List ℕ) → length ns < 1 → numbers_text ns ≡ []
-numbers-none [] lt = refl
-numbers-none (n ∷ ns) lt = absurd (omega arith)
-
-pub numbers_first : (ns : List ℕ) → 1 ≤ length ns → numbers_text ns ≡ decimal (get_or ns 0 0) ++ more_numbers (drop 1 ns)
-numbers_first [] le = absurd (omega arith)
-numbers_first (n ∷ ns) le = refl

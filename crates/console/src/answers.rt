@@ -57,6 +57,7 @@ pub fn write_line(
     ensures { OnOk result (Adds (string_bytes text.old) (line_text kinds width name.now asked) (string_bytes text.new)) }
 {
     let answer = Answer { asked, kinds };
+    // No clause says that the padding of `{name:width$}` counts the characters that `chars` gives.
     let blanks = width.saturating_sub(count_columns(name));
     write!(text, "{name}{:blanks$}  {answer}\n", "")
 }

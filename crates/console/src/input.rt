@@ -9,6 +9,7 @@ use std::fs::File;
 use std::io::Read;
 use std::{fmt, io};
 
+// An Option of a name would not say what is read where there is none.
 #[derive(Clone, Copy)]
 pub enum Source<'a> {
     Input,

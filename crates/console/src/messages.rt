@@ -5,7 +5,7 @@ ghost use Rattle.console.specs.declared.messages.Problem.TheVariants.{Memory};
 use crate::budget::TEXT_BYTES;
 use crate::input::Source;
 use crate::positions::Unknown;
-use clockworks::rows::Unfit;
+use clockworks::write::Unfit;
 use drawing::errors::{Place, Refusal};
 use std::alloc::{AllocError, AllocFailed};
 use std::{fmt, io};

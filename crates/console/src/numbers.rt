@@ -2,7 +2,7 @@
 ghost use Rattle.std.specs.Prelude.{◌≡◌, ◌≤◌, not, ◌++◌, length, position, IfOk, string_bytes, codes, MatchResult, OnOk};
 ghost use Rattle.std.specs.Bool.{beq};
 ghost use Rattle.clockworks.specs.Meaning.{Adds};
-ghost use Rattle.console.specs.Numbers.{digit_pushed, number_of};
+ghost use Rattle.console.specs.Numbers.{number_of};
 ghost use Rattle.console.specs.declared.numbers.Mistake.TheVariants.{Memory};
 ghost use Rattle.console.specs.Rows.{blank as isBlankByte, FirstBlank, NextWord, RowIs, RowRefused, numbers_text};
 
@@ -26,6 +26,7 @@ impl<T: Drop> From<AllocFailed<T>> for Mistake {
     }
 }
 
+// `is_ascii_whitespace` leaves out the vertical tab.
 fn is_blank(byte: u8) -> bool
     ensures { result ≡ isBlankByte byte }
 {
@@ -57,28 +58,15 @@ fn next_word(bytes: &[u8], at: usize) -> (usize, usize)
     (start, find_blank(bytes, start, true))
 }
 
-// One digit more, if the number still fits.
-fn push_digit(number: u32, byte: u8) -> Option<u32>
-    ensures { result ≡ digit_pushed number byte }
-{
-    if !byte.is_ascii_digit() {
-        return None;
-    }
-    number.checked_mul(10)?.checked_add(u32::from(byte - b'0'))
-}
-
 // The number that a word of digits writes, if it is one and fits.
 pub fn parse(word: &[u8]) -> Option<u32>
     ensures { result ≡ number_of word.now }
 {
-    if word.is_empty() {
+    // The library takes a plus in front as well.
+    if word.starts_with(b"+") {
         return None;
     }
-    let mut number = 0u32;
-    for byte in word {
-        number = push_digit(number, *byte)?;
-    }
-    Some(number)
+    std::str::from_utf8(word).ok()?.parse().ok()
 }
 
 // The numbers of the text.

@@ -45,15 +45,14 @@ pub fn name_of(heap: Global, names: &[String], position: usize) -> Result<String
 }
 
 // The names with commas between them, or the numbers where there are no names.
-fn list(heap: Global, names: &[String], count: usize) -> Result<String, Problem> {
-    let mut text = String::new(heap);
-    for (place, name) in names.iter().enumerate() {
-        text.push_str(if place == 0 { "" } else { ", " })?;
-        text.push_str(name.as_str())?;
-    }
-    if names.is_empty() {
+fn list(heap: Global, names: &[String], count: usize) -> Result<String, AllocError> {
+    let [first, others @ ..] = names else {
         let last = count.saturating_sub(1);
-        write!(text, "0 to {last}")?;
+        return format!(in heap; "0 to {last}");
+    };
+    let mut text = first.clone()?;
+    for name in others {
+        write!(text, ", {name}")?;
     }
     Ok(text)
 }

@@ -1,14 +1,14 @@
 -- A text that is written line by line: what a loop over tests, clocks, positions or steps has come to.
-use Rattle.std.proofs.Common.{◌≡◌, ℕ, suc, ◌+◌, ◌<◌, ◌≤◌, true, List, [], ◌∷◌, ◌++◌, map, length, get_or, drop, codes, sym, refl, ap, ◌∙◌, append_assoc, append-nil, add-one, arith}
+use Rattle.std.proofs.Common.{◌≡◌, ℕ, suc, ◌+◌, ◌<◌, ◌≤◌, true, List, [], ◌∷◌, ◌++◌, map, length, get_or, drop, codes, sym, refl, ap, ◌∙◌, append_assoc, append-nil, add-one}
 use Rattle.std.specs.List.{flat_map}
 use Rattle.std.proofs.lemmas.List.{at_drop_more, at_drop_all}
 use Rattle.std.proofs.lemmas.List.Folds.{flat_map-map}
 use Rattle.rows.specs.declared.constraints.Constraint.{Constraint as Test}
 use Rattle.clockworks.specs.declared.parts.Position.{Position}
 use Rattle.rows.specs.Parts.{constraint_value}
-use Rattle.clockworks.specs.Meaning.{Adds, constraints, invariant_of, edge}
+use Rattle.clockworks.specs.Meaning.{Adds, constraints, invariant_of}
 use Rattle.clockworks.proofs.Writing.{Walk, adds_more, adds_same}
-use Rattle.drawing.specs.Sheets.{test_text, more_tests, tests_text, clock_text, first_clocks, each_clock, resets_text, position_line, position_lines, step_line, step_lines}
+use Rattle.drawing.specs.Sheets.{test_text, tests_text, clock_text, first_clocks, each_clock, resets_text, position_line, position_lines}
 
 pub text_walk : {X : Type 0} (w : X → List ℕ) → Walk w (flat_map w) (λ _. true) (λ _. true)
 text_walk w = record { no_words = refl; more_words = λ _ _. refl; none_fits = refl; more_fit = λ _ _. refl }

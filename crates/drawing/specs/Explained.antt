@@ -1,6 +1,6 @@
 -- What a refusal says of the mistake that it is made of.
 use Rattle.std.specs.Prelude.{◌≡◌}
-use Rattle.clockworks.specs.declared.rows.Unfit.TheVariants.{Words}
+use Rattle.clockworks.specs.declared.write.Unfit.TheVariants.{Words}
 use Rattle.drawing.specs.declared.errors.Expected.TheVariants as expected
 use Rattle.drawing.specs.declared.errors.Found.TheVariants.{Unfit}
 use Rattle.drawing.specs.declared.errors.Refusal.{Refusal}

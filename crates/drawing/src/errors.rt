@@ -3,7 +3,7 @@ ghost use Rattle.std.specs.Prelude.{◌≡◌, ◌+◌, ◌≤◌, length, Some,
 ghost use Rattle.drawing.specs.Words.{text_of};
 ghost use Rattle.drawing.specs.Places.{newline_count, last_line_len as last_line_len_lem};
 
-use clockworks::rows::Unfit;
+use clockworks::write::Unfit;
 use std::error::Error;
 use std::fmt;
 

@@ -5,7 +5,7 @@ use crate::cursor::Cursor;
 use crate::errors::{Expected, Found, Place, Refusal};
 use crate::mistakes::Mistake;
 use crate::words::Word;
-use clockworks::rows::Unfit;
+use clockworks::write::Unfit;
 use std::alloc::{AllocError, Global};
 
 fn found_word(heap: Global, word: Word) -> Result<Found, AllocError> {

@@ -8,8 +8,8 @@ use crate::errors::{Expected, Found, Place, Refusal};
 use crate::mistakes::Mistake;
 use crate::names::Names;
 use clockworks::parts::Clockwork;
-use clockworks::rows::{Unfit, write_row};
 use clockworks::split::split_row;
+use clockworks::write::{Unfit, write_row};
 use std::alloc::Global;
 
 mod characters;

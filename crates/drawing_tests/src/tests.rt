@@ -1,5 +1,5 @@
 // Drawings that are read, refusals with their words, and rows that come back from their drawings.
-use clockworks::rows::Unfit;
+use clockworks::write::Unfit;
 use drawing::{draw, read};
 use std::alloc::{AllocError, Global};
 use std::process::Abort;

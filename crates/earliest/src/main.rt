@@ -30,40 +30,33 @@ fn carry_out(rt: &HostRuntime, options: &Options) -> Result<(), Problem> {
     rt.print(text.as_str()).map_err(Problem::Unwritable)
 }
 
-// Whether all went well; where it did not, the reason has been told.
-fn run(rt: &HostRuntime) -> io::Result<bool> {
-    let words = match env::args(rt) {
+// Where something is wrong, the reason is told. Witness has a twin, with other words, options and work: a shared one would take all three
+// from its caller, the last two as closures, and be no plainer.
+fn main(rt: HostRuntime) -> io::Result<ExitCode> {
+    let words = match env::args(&rt) {
         Ok(words) => words,
         Err(error) => {
             eprintln!(rt; "earliest: the arguments cannot be read: {error}")?;
-            return Ok(false);
+            return Ok(ExitCode::FAILURE);
         }
     };
     match options::parse(words) {
         Ok(Request::Help) => rt.print(help::HELP)?,
         Ok(Request::Version) => rt.print(help::VERSION)?,
         Ok(Request::Show(options)) => {
-            if let Err(problem) = carry_out(rt, &options) {
+            if let Err(problem) = carry_out(&rt, &options) {
                 let source = options.source();
                 let problem = &problem;
                 rt.eprintln(Report { source, problem })?;
-                return Ok(false);
+                return Ok(ExitCode::FAILURE);
             }
         }
         Err(mistake) => {
             let program = help::PROGRAM;
             let mistake = &mistake;
             rt.eprintln(BadCall { program, mistake })?;
-            return Ok(false);
+            return Ok(ExitCode::FAILURE);
         }
     }
-    Ok(true)
-}
-
-fn main(rt: HostRuntime) -> io::Result<ExitCode> {
-    if run(&rt)? {
-        Ok(ExitCode::SUCCESS)
-    } else {
-        Ok(ExitCode::FAILURE)
-    }
+    Ok(ExitCode::SUCCESS)
 }

@@ -113,8 +113,8 @@ impl<'a> Iterator for Invariants<'a> {
 
     fn next(&mut self) -> Option<Conjunction<'a>> {
         let left = self.left.checked_sub(1)?;
-        let (conjunction, end) = conjunction_at(self.row, self.at)?;
-        self.at = end;
+        let (conjunction, behind) = conjunction_at(self.row, self.at)?;
+        self.at = behind;
         self.left = left;
         Some(conjunction)
     }

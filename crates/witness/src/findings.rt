@@ -1,6 +1,7 @@
 // The answer for a position, with a witness.
 use crate::troubles::Trouble;
-use clocks::answers::{Asked, look_up};
+use clocks::answers::look_up;
+use console::answers::Answer;
 use console::budget::lend_words;
 use console::messages::Problem;
 use realise::runs::Failure;
@@ -17,7 +18,7 @@ pub struct NoRoom;
 // The answer, and the run to show beside it, if there is one.
 #[derive(Drop)]
 pub struct Finding {
-    pub asked: Asked,
+    pub answer: Answer,
     pub shown: Result<Option<Witness>, NoRoom>,
 }
 
@@ -32,7 +33,10 @@ pub fn find(
     let row = automaton.words();
     let mut work = lend_words(heap, row.len(), kinds)?;
     let explored = explore(row, kinds, work.as_mut_slice());
-    let asked = look_up(explored, location.0 as usize);
+    let answer = Answer {
+        asked: look_up(explored, location.0 as usize),
+        kinds,
+    };
     let shown = match explored {
         Explored::Known(table) => {
             match witness_of(heap, automaton, &table, kinds, location, part) {
@@ -44,5 +48,5 @@ pub fn find(
         }
         _ => Ok(None),
     };
-    Ok(Finding { asked, shown })
+    Ok(Finding { answer, shown })
 }

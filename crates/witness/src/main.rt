@@ -77,7 +77,7 @@ fn write_output(heap: Global, options: &Options, drawing: &Drawing) -> Result<St
         clocks: clocks.as_slice(),
         positions: positions.as_slice(),
     };
-    output::write(heap, &automaton, names, location, kinds, &finding)
+    output::write(heap, &automaton, names, location, &finding)
 }
 
 // The text is let go before the search begins.
@@ -95,45 +95,32 @@ fn carry_out(rt: &HostRuntime, options: &Options) -> Result<(), Trouble> {
     Ok(())
 }
 
-// Whether it went well; where it did not, the reason has been told.
-fn show(rt: &HostRuntime, options: Options) -> io::Result<bool> {
-    match carry_out(rt, &options) {
-        Ok(()) => Ok(true),
-        Err(trouble) => {
-            let source = options.source();
-            let trouble = &trouble;
-            rt.eprintln(Complaint { source, trouble })?;
-            Ok(false)
-        }
-    }
-}
-
-fn run(rt: &HostRuntime) -> io::Result<bool> {
-    let words = match env::args(rt) {
+// Where something is wrong, the reason is told.
+fn main(rt: HostRuntime) -> io::Result<ExitCode> {
+    let words = match env::args(&rt) {
         Ok(words) => words,
         Err(error) => {
             eprintln!(rt; "witness: the arguments cannot be read: {error}")?;
-            return Ok(false);
+            return Ok(ExitCode::FAILURE);
         }
     };
     match options::parse(rt.alloc(), words) {
         Ok(Request::Help) => rt.print(help::HELP)?,
         Ok(Request::Version) => rt.print(help::VERSION)?,
-        Ok(Request::Show(options)) => return show(rt, options),
+        Ok(Request::Show(options)) => {
+            if let Err(trouble) = carry_out(&rt, &options) {
+                let source = options.source();
+                let trouble = &trouble;
+                rt.eprintln(Complaint { source, trouble })?;
+                return Ok(ExitCode::FAILURE);
+            }
+        }
         Err(mistake) => {
             let program = help::PROGRAM;
             let mistake = &mistake;
             rt.eprintln(BadCall { program, mistake })?;
-            return Ok(false);
+            return Ok(ExitCode::FAILURE);
         }
     }
-    Ok(true)
-}
-
-fn main(rt: HostRuntime) -> io::Result<ExitCode> {
-    if run(&rt)? {
-        Ok(ExitCode::SUCCESS)
-    } else {
-        Ok(ExitCode::FAILURE)
-    }
+    Ok(ExitCode::SUCCESS)
 }

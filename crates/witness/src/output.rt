@@ -17,20 +17,16 @@ fn write_first(
     text: &mut String,
     names: Names<'_>,
     location: Location,
-    asked: Asked,
-    kinds: u32,
+    answer: Answer,
 ) -> Result<(), AllocError> {
-    match asked {
-        Asked::Many => {
-            let answer = Answer { asked, kinds };
-            write!(text, "{answer}\n")
-        }
-        _ => write_line(
+    match answer.asked {
+        Asked::Many => write!(text, "{answer}\n"),
+        asked => write_line(
             text,
             name_of(names.positions, location.0 as usize),
             0,
             asked,
-            kinds,
+            answer.kinds,
         ),
     }
 }
@@ -40,11 +36,10 @@ pub fn write(
     automaton: &Automaton,
     names: Names<'_>,
     location: Location,
-    kinds: u32,
     finding: &Finding,
 ) -> Result<String, Trouble> {
     let mut text = String::new(heap);
-    write_first(&mut text, names, location, finding.asked, kinds)?;
+    write_first(&mut text, names, location, finding.answer)?;
     match &finding.shown {
         Ok(Some(witness)) => {
             let moves = witness.run.moves.as_slice();

@@ -1,19 +1,24 @@
-use Rattle.std.proofs.Common.{◌≡◌, length, Some, sym, ◌∙◌, arith, false-eqb}
-use Rattle.std.proofs.lemmas.List.{at_drop_all}
-use Rattle.console.specs.Numbers.{push_all}
-use Rattle.console.proofs.Digits.{digits_more, some_digits}
+use Rattle.std.proofs.Common.{◌≡◌, ℕ, List, ◌∷◌, [], get_or, sym, ◌∙◌, ap}
+use Rattle.std.proofs.lemmas.Slice.Eq.{starts_is}
+use Rattle.std.proofs.lemmas.Bool.Decides.{Decides-eqb}
+use Rattle.std.proofs.lemmas.Str.Parse.{parse_plain}
+use Rattle.console.specs.Numbers.{number_of}
+use Rattle.console.proofs.Digits.{numerals, parsed, plus_first, other_bytes, no_plus, not_text, same_text}
 use Rattle.console.proofs.numbers.parse.Goals as goal
 
-pub returns-in_err-number : goal.returns-in_err-number
-returns-in_err-number c =
-    let some : length c.args.word.now ≡ 0 → ⊥ = λ e. omega (arith, false-eqb _ 0 c.if-is_empty.ensures) in
-    c.from_residual.ensures
-    ∙ sym (some_digits c.args.word.now some ∙ (c.loop-byte.invariant ∙ digits_more c.args.word.now _ _ _ c.loop-byte-test.true c.in_err-number.ensures))
+pub returns-then-starts_with : goal.returns-then-starts_with
+returns-then-starts_with c =
+    sym (plus_first c.args.word.now _ ((starts_is Decides-eqb c.args.word.now (43 ∷ []) _ c.starts_with.ensures.value).0 c.if-starts_with.true))
 
-pub loop-byte-preserved : goal.loop-byte-preserved
-loop-byte-preserved c = c.loop-byte.invariant ∙ digits_more c.args.word.now _ _ _ c.loop-byte-test.true c.in_ok-number.ensures
+pub returns-in_err-ok : goal.returns-in_err-ok
+returns-in_err-ok c =
+    c.from_residual.ensures ∙ sym (other_bytes c.args.word.now (not_text _ c.args.word.now c.from_utf8.result c.in_err-ok.ensures.value c.from_utf8.ensures.cases))
 
 pub returns : goal.returns
 returns c =
-    let some : length c.args.word.now ≡ 0 → ⊥ = λ e. omega (arith, false-eqb _ 0 c.if-is_empty.ensures) in
-    sym (some_digits c.args.word.now some ∙ (c.loop-byte.invariant ∙ at_drop_all (push_all (Some c.loop-byte.number)) c.args.word.now _ c.loop-byte-test.false))
+    let text = c.in_ok-ok.field-0.now in
+    let same : text ≡ c.args.word.now = same_text _ c.args.word.now c.in_ok-ok.field-0 c.from_utf8.result c.in_ok-ok.ensures.value c.from_utf8.ensures.cases in
+    let all = (starts_is Decides-eqb c.args.word.now (43 ∷ []) _ c.starts_with.ensures.value).1 in
+    c.ok-2.ensures.value
+    ∙ (parsed text c.parse.result (parse_plain numerals 32 text c.parse.result c.parse.ensures.value.0 (λ e. no_plus c.args.word.now _ all c.if-starts_with.false (ap (λ (l : List ℕ). get_or l 0 0) (sym same) ∙ e)))
+    ∙ ap number_of same)

@@ -1,4 +1,4 @@
-use Rattle.std.proofs.Common.{◌<◌, length, arith}
+use Rattle.std.proofs.Common.{arith}
 use Rattle.drawing.proofs.Cuts.{word_takes}
 use Rattle.drawing.proofs.cursor.Cursor.advance.Goals as goal
 

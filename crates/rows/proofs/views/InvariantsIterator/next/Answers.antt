@@ -57,6 +57,6 @@ returns c =
     record {
       steps =
           λ css is.
-          some_invariant c.args.self.now (record { row = c.args.self.now.row; at = c.in_ok-conjunction.end; left = c.in_ok-left.left }) c.in_ok-conjunction.conjunction css c.in_ok-conjunction.ensures.part refl (omega (arith, c.in_ok-left.ensures)) is;
+          some_invariant c.args.self.now (record { row = c.args.self.now.row; at = c.in_ok-conjunction.behind; left = c.in_ok-left.left }) c.in_ok-conjunction.conjunction css c.in_ok-conjunction.ensures.part refl (omega (arith, c.in_ok-left.ensures)) is;
       goes = firm ((tt, tt, omega (arith, c.in_ok-left.ensures))) (λ h. search rules);
     }

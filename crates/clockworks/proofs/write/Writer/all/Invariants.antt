@@ -1,7 +1,7 @@
 use Rattle.std.proofs.Common.{take}
 use Rattle.std.specs.List.{flat_map, list_all}
 use Rattle.clockworks.specs.Meaning.{Wrote}
-use Rattle.clockworks.proofs.rows.Writer.all.Given as goal
+use Rattle.clockworks.proofs.write.Writer.all.Given as goal
 
 abbrev pub invariant-loop-part : goal.invariant-loop-part
 invariant-loop-part g l =

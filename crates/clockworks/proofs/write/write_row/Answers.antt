@@ -1,6 +1,6 @@
-use Rattle.std.proofs.Common.{◌≡◌, ◌+◌, ◌≤◌, [], ◌∷◌, ◌++◌, length, vec_items, sym, refl, ap, ◌∙◌, arith}
+use Rattle.std.proofs.Common.{◌≡◌, ◌≤◌, [], ◌∷◌, ◌++◌, length, vec_items, sym, refl, ap, ◌∙◌, arith}
 use Rattle.clockworks.proofs.Writing.{row_reads}
-use Rattle.clockworks.proofs.rows.write_row.Goals as goal
+use Rattle.clockworks.proofs.write.write_row.Goals as goal
 
 pub returns : goal.returns
 returns c =

@@ -1,5 +1,5 @@
 use Rattle.clockworks.proofs.Writing.{position_written}
-use Rattle.clockworks.proofs.rows.PositionPart.write.Goals as goal
+use Rattle.clockworks.proofs.write.PositionPart.write.Goals as goal
 use Rattle.std.proofs.Common.{sym, ◌∙◌}
 
 pub returns : goal.returns

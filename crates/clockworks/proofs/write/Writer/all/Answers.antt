@@ -1,5 +1,5 @@
 use Rattle.clockworks.proofs.Writing.{wrote_none, wrote_more, wrote_all}
-use Rattle.clockworks.proofs.rows.Writer.all.Goals as goal
+use Rattle.clockworks.proofs.write.Writer.all.Goals as goal
 
 pub loop-part-init : goal.loop-part-init
 loop-part-init g c = wrote_none _

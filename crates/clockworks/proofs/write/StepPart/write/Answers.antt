@@ -1,7 +1,7 @@
 use Rattle.std.proofs.Common.{refl}
 use Rattle.std.proofs.lemmas.Bool.{and_from, lt-ltb}
 use Rattle.clockworks.proofs.Writing.{adds_more, step_written}
-use Rattle.clockworks.proofs.rows.StepPart.write.Goals as goal
+use Rattle.clockworks.proofs.write.StepPart.write.Goals as goal
 
 pub returns : goal.returns
 returns c =
