@@ -51,7 +51,7 @@ pub enum Found {
     Unfit(Unfit),
 }
 
-// The signs of a drawing.
+// The signs of a drawing. Those of relations are no `Relation` here: a line is cut by the text of a sign, which rows only prints.
 #[derive(Clone, Copy, Debug, PartialEq, Eq)]
 pub enum Sign {
     Colon,

@@ -7,7 +7,7 @@ use console::messages::Problem;
 use realise::runs::Failure;
 use rows::edges::Location;
 use rows::views::Automaton;
-use search::explores::{Explored, explore};
+use search::explores::explore;
 use std::alloc::Global;
 use witnesses::answers::{Witness, witness_of};
 
@@ -38,7 +38,7 @@ pub fn find(
         kinds,
     };
     let shown = match explored {
-        Explored::Known(table) => {
+        Ok(table) => {
             match witness_of(heap, automaton, &table, kinds, location, part) {
                 Ok(witness) => Ok(witness),
                 Err(Failure::NoRoom) => Err(NoRoom),
@@ -46,7 +46,7 @@ pub fn find(
                 Err(Failure::Astray) => return Err(Trouble::Astray),
             }
         }
-        _ => Ok(None),
+        Err(_) => Ok(None),
     };
     Ok(Finding { answer, shown })
 }

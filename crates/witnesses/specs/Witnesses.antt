@@ -3,13 +3,12 @@ use Rattle.std.specs.Prelude.{◌≡◌, ℕ, List, Some, None, Option}
 use Rattle.automata.specs.Automata as automata
 use Rattle.automata.specs.Statements as theory
 use Rattle.rows.specs.declared.views.Automaton.{Automaton}
-use Rattle.rows.specs.Views.{automaton_value}
+use Rattle.rows.specs.Views.{Views}
 use Rattle.cells.specs.Meaning.{region_value}
 use Rattle.search.specs.declared.answers.Answer.{Answer}
 use Rattle.search.specs.declared.answers.Answer.TheVariants.{At, After, Never}
 use Rattle.search.specs.declared.answers.Table.{Table}
 use Rattle.search.specs.Answering.{AnswerIs, TableIs}
-use Rattle.search.specs.Firsts.{FirstsKnown}
 use Rattle.search.specs.Least.{region_at, LeastPost}
 use Rattle.realise.specs.declared.arrivals.Arrival.{Arrival}
 use Rattle.realise.specs.declared.arrivals.Arrival.TheVariants as arrival
@@ -36,5 +35,5 @@ abbrev pub WitnessIs : Automaton → Table → ℕ → ℕ → Option Witness �
 WitnessIs v t l part None =
     (row : List ℕ) (kinds : ℕ) (a : automata.Automaton) → TableIs row kinds t a → theory.Never a l
 WitnessIs v t l part (Some w) =
-    Realised (automaton_value v) l w.arrival w.run
-    × ((row : List ℕ) (kinds : ℕ) (a : automata.Automaton) → TableIs row kinds t a → FirstsKnown t → ToldBy t l part a w)
+    ((a : automata.Automaton) → Views v a → Realised a l w.arrival w.run)
+    × ((row : List ℕ) (kinds : ℕ) (a : automata.Automaton) → TableIs row kinds t a → ToldBy t l part a w)

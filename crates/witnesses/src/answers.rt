@@ -45,7 +45,7 @@ pub fn witness_of(
     if location.0 >= table.locations() {
         return Err(Failure::Astray);
     }
-    let answer = table.told(location.0);
+    let answer = table.told(location.0 as usize);
     let Some(arrival) = arrival_for(answer, part) else {
         return Ok(None);
     };

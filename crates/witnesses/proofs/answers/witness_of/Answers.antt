@@ -10,14 +10,14 @@ returns-in_default c =
 pub returns : goal.returns
 returns c = (
   c.in_ok-run.ensures,
-  λ row kinds a is firsts.
+  λ row kinds a is.
       let region = c.in-Some-region.ensures row kinds a is in
       record {
         answer = c.told-answer.result;
         true_answer = c.told-answer.ensures row kinds a is;
         arrival = sym c.in-Some.ensures;
         entry = c.in-Some-first.entry;
-        first = c.in-Some-first.ensures firsts (omega (arith, c.if-location-locations.false, c.locations.ensures));
+        first = c.in-Some-first.ensures (omega (arith, c.if-location-locations.false, c.locations.ensures));
         region = region.1;
       },
 )
