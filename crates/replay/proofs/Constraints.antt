@@ -1,16 +1,14 @@
 -- All constraints of a conjunction, one after the other.
-use Rattle.std.proofs.Common.{◌≡◌, ℕ, zero, suc, ◌<◌, Bool, true, false, List, [], ◌∷◌, Option, length, get_or, refl, subst, ap, ◌∙◌, arith}
+use Rattle.std.proofs.Common.{◌≡◌, ℕ, zero, suc, ◌<◌, Bool, true, false, List, [], ◌∷◌, Option, length, get_or, refl, subst, ap, arith}
 use mathlib.Core.Option.{some}
 use Rattle.std.specs.Bool.{MatchBool}
 use Rattle.std.specs.List.{AllWithin, HoldsAt}
 use Rattle.std.proofs.lemmas.Iterator.{YieldsList}
 use Rattle.std.proofs.lemmas.Iterator.Consumers.{YieldsList-from_shown}
-use Rattle.automata.specs.Automata.{nth, Relation, at_most, below, at_least, above, Constraint}
-use Rattle.automata.specs.Rows.{code, write_constraints}
+use Rattle.automata.specs.Automata.{nth, at_most, Constraint}
 use Rattle.rows.specs.declared.constraints.Constraint as constraints
 use Rattle.rows.specs.declared.constraints.Constraints.{Constraints}
 use Rattle.rows.specs.Parts.{constraint_value}
-use Rattle.rows.specs.Parse.{relation_of}
 use Rattle.rows.specs.Values.{constraints_value, NextConstraint}
 use Rattle.replay.specs.Checks.{Decides, MeetsParts, HoldsParts}
 use Rattle.replay.proofs.Lists.{some_within, some_same}

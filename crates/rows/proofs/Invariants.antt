@@ -3,7 +3,6 @@ use Rattle.std.proofs.Common.{◌≡◌, ℕ, zero, suc, ◌≤◌, List, [], �
 use Rattle.std.specs.Iterator.{Yields, SkipsThenYields}
 use mathlib.Core.Option.{some}
 use Rattle.automata.specs.Automata.{nth, Constraint}
-use Rattle.automata.specs.Rows.{write_constraints}
 use Rattle.rows.specs.declared.constraints.Conjunction.{Conjunction}
 use Rattle.rows.specs.declared.views.Invariants.{Invariants}
 use Rattle.rows.specs.Views.{InvariantIs, InvariantsAre, NextInvariant}

@@ -17,10 +17,10 @@ at_the_start = record { location = refl; clocks = λ i h. get_or-replicate 8 i 0
 
 pub returns-then-not-allowed : goal.returns-then-not-allowed
 returns-then-not-allowed c =
-    let a = automaton_value c.args.automaton.now in
-    (refl, start_fails a (reads_in_range (views c.args.automaton.now).reads) start at_the_start c.if-not-allowed.ensures)
+    let range = reads_in_range (views c.args.automaton.now).reads in
+    (refl, start_fails (automaton_value c.args.automaton.now) range start at_the_start c.if-not-allowed.ensures)
 
 pub returns : goal.returns
 returns c =
-    let a = automaton_value c.args.automaton.now in
-    (at_the_start, start_come a (reads_in_range (views c.args.automaton.now).reads) start at_the_start c.if-not-allowed.ensures)
+    let range = reads_in_range (views c.args.automaton.now).reads in
+    (at_the_start, start_come (automaton_value c.args.automaton.now) range start at_the_start c.if-not-allowed.ensures)

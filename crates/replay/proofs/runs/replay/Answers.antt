@@ -1,5 +1,5 @@
 -- The first move that is refused refuses the run.
-use Rattle.std.proofs.Common.{ℕ, suc, ◌+◌, ◌<◌, ◌≤◌, List, length, get_or, take, drop, Ok, sym, subst, arith, take_all}
+use Rattle.std.proofs.Common.{ℕ, suc, ◌+◌, ◌<◌, ◌≤◌, List, length, get_or, take, drop, sym, subst, arith, take_all}
 use lib.Seq.{split_at}
 use Rattle.std.proofs.lemmas.List.{take_more}
 use Rattle.std.proofs.lemmas.Result.{err_from_is_err_and}
@@ -7,13 +7,12 @@ use Rattle.automata.specs.Automata.{Automaton}
 use Rattle.automata.specs.Runs.{start}
 use Rattle.rows.specs.Views.{automaton_value}
 use Rattle.rows.proofs.Values.{views}
-use Rattle.rows.specs.declared.views.Automaton as view
 use Rattle.replay.specs.declared.moments.Move.{Move}
 use Rattle.replay.specs.declared.moments.Move.TheVariants.{Wait}
 use Rattle.replay.specs.declared.moments.Moment.{Moment}
 use Rattle.replay.specs.declared.moments.Fault.{Fault}
 use Rattle.replay.specs.Moves.{start_state}
-use Rattle.replay.specs.Outcomes.{Begins, Advanced, Fails, Replayed, Refused}
+use Rattle.replay.specs.Outcomes.{Advanced, Fails, Replayed, Refused}
 use Rattle.replay.proofs.InRange.{reads_in_range}
 use Rattle.replay.proofs.Paths.{Followed, followed_start, followed_on, followed_all, refused_at}
 use Rattle.replay.proofs.runs.replay.Goals as goal
@@ -55,11 +54,11 @@ all_made a d ms i m pos h f =
 pub returns-in_err-moment : goal.returns-in_err-moment
 returns-in_err-moment c =
     let p = err_from_is_err_and c.from_residual-in_err-moment.result c.from_residual-in_err-moment.ensures.1 in
+    let a = automaton_value c.args.automaton.now in
+    let (fault, none) = c.in_err-moment.ensures in
     rw
     (p.1, p.2)
-    (let a = automaton_value c.args.automaton.now in
-    let (fault, none) = c.in_err-moment.ensures in
-    subst
+    (subst
     (λ (f : Fault). Refused a c.args.denominator c.args.moves.now f)
     (sym fault)
     (λ s run. none (start_state a) (start run.start)))
@@ -67,28 +66,29 @@ returns-in_err-moment c =
 pub loop-next-init : goal.loop-next-init
 loop-next-init c =
     let player = c.in_ok-player.player in
-    let begun = subst (λ (v : view.Automaton). Begins (automaton_value v) (Ok c.in_ok-moment.moment)) (sym c.in_ok-player.ensures.0) c.in_ok-moment.ensures in
-    followed_start (automaton_value player.automaton) player.denominator c.in_ok-moment.moment (reads_in_range (views player.automaton).reads).clocks begun.0 (begun.1 player.denominator)
+    let (at, come) = rw (← c.in_ok-player.ensures.0) at c.in_ok-moment.ensures in
+    followed_start (automaton_value player.automaton) player.denominator c.in_ok-moment.moment
+    (reads_in_range (views player.automaton).reads).clocks at (come player.denominator)
 
 pub returns-in_err-moment-2 : goal.returns-in_err-moment-2
 returns-in_err-moment-2 c =
     let p = err_from_is_err_and c.from_residual-in_err-moment-2.result c.from_residual-in_err-moment-2.ensures.1 in
+    let player = c.in_ok-player.player in
     rw
     (p.1, p.2, ← c.in_ok-player.ensures.0, ← c.in_ok-player.ensures.1)
-    (let a = automaton_value c.in_ok-player.player.automaton in
-    none_more a c.in_ok-player.player.denominator c.args.moves.now c.loop-next.next-index c.loop-next.moment
+    (none_more (automaton_value player.automaton) player.denominator c.args.moves.now c.loop-next.next-index c.loop-next.moment
     c.in_err-moment-2.field-0.0 c.loop-next-test.true c.loop-next.invariant c.in_err-moment-2.ensures)
 
 pub loop-next-preserved : goal.loop-next-preserved
 loop-next-preserved c =
-    let a = automaton_value c.in_ok-player.player.automaton in
-    one_more a c.in_ok-player.player.denominator c.args.moves.now c.loop-next.next-index c.loop-next.moment
+    let player = c.in_ok-player.player in
+    one_more (automaton_value player.automaton) player.denominator c.args.moves.now c.loop-next.next-index c.loop-next.moment
     c.in_ok-moment-2.moment c.loop-next-test.true c.loop-next.invariant c.in_ok-moment-2.ensures
 
 pub returns : goal.returns
 returns c =
+    let player = c.in_ok-player.player in
     rw
     (← c.in_ok-player.ensures.0, ← c.in_ok-player.ensures.1)
-    (let a = automaton_value c.in_ok-player.player.automaton in
-    all_made a c.in_ok-player.player.denominator c.args.moves.now c.loop-next.next-index c.loop-next.moment
-    c.in_ok-player.player.positive c.loop-next-test.false c.loop-next.invariant)
+    (all_made (automaton_value player.automaton) player.denominator c.args.moves.now c.loop-next.next-index c.loop-next.moment
+    player.positive c.loop-next-test.false c.loop-next.invariant)

@@ -5,5 +5,4 @@ use Rattle.replay.proofs.Paths.{Followed}
 use Rattle.replay.proofs.runs.replay.Given as goal
 
 abbrev pub invariant-loop-next : goal.invariant-loop-next
-invariant-loop-next l =
-    Followed (automaton_value l.player.automaton) l.player.denominator (take l.next-index l.moves) l.moment
+invariant-loop-next l = Followed (automaton_value l.player.automaton) l.player.denominator (take l.next-index l.moves) l.moment

@@ -65,26 +65,25 @@ module _
 
 pub returns-then-not-holds : goal.returns-then-not-holds
 returns-then-not-holds c =
-    let a = automaton_value c.args.self.now.automaton in
+    let player = c.args.self.now in
     let found = rw c.in_ok-edge.ensures.ok_part at c.numbered_edge.ensures in
-    guard-fault a (reads_in_range (views c.args.self.now.automaton).reads) c.args.self.now.denominator c.args.self.now.positive c.args.number c.in_ok-edge.edge
-    c.args.moment.now found
+    guard-fault (automaton_value player.automaton) (reads_in_range (views player.automaton).reads) player.denominator player.positive
+    c.args.number c.in_ok-edge.edge c.args.moment.now found
     (rw (constraints_value-is c.in_ok-edge.edge.guard.words.now found.0.guard found.2.guard) at c.if-not-holds.ensures)
 
 pub returns-then-not-is_allowed : goal.returns-then-not-is_allowed
 returns-then-not-is_allowed c =
-    let a = automaton_value c.args.self.now.automaton in
+    let player = c.args.self.now in
     let found = rw c.in_ok-edge.ensures.ok_part at c.numbered_edge.ensures in
-    target-fault a (reads_in_range (views c.args.self.now.automaton).reads) c.args.self.now.denominator c.args.self.now.positive c.args.number c.in_ok-edge.edge
-    c.args.moment.now found c.with_resets.result c.with_resets.ensures
-    c.if-not-is_allowed.ensures
+    target-fault (automaton_value player.automaton) (reads_in_range (views player.automaton).reads) player.denominator player.positive
+    c.args.number c.in_ok-edge.edge c.args.moment.now found c.with_resets.result c.with_resets.ensures c.if-not-is_allowed.ensures
 
 pub returns : goal.returns
 returns c =
-    let a = automaton_value c.args.self.now.automaton in
+    let player = c.args.self.now in
     let found = rw c.in_ok-edge.ensures.ok_part at c.numbered_edge.ensures in
-    edge-taken a (reads_in_range (views c.args.self.now.automaton).reads) c.args.self.now.denominator c.args.self.now.positive c.args.number c.in_ok-edge.edge
-    c.args.moment.now found c.with_resets.result c.with_resets.ensures
+    edge-taken (automaton_value player.automaton) (reads_in_range (views player.automaton).reads) player.denominator player.positive
+    c.args.number c.in_ok-edge.edge c.args.moment.now found c.with_resets.result c.with_resets.ensures
     (search rules)
     (rw (constraints_value-is c.in_ok-edge.edge.guard.words.now found.0.guard found.2.guard) at c.if-not-holds.ensures)
     c.if-not-is_allowed.ensures
