@@ -1,7 +1,6 @@
 // A run as text: a line for each wait and each step.
 ghost use Rattle.std.specs.Prelude.{◌≡◌, ℕ, min, List, [], length, IfOk, string_bytes, OnOk};
-ghost use Rattle.automata.specs.Automata as automata;
-ghost use Rattle.rows.specs.Views.{Views};
+ghost use Rattle.rows.specs.Views.{automaton_value};
 ghost use Rattle.clockworks.specs.Meaning.{Adds};
 ghost use Rattle.replay.specs.declared.moments.Moment as moments;
 ghost use Rattle.accounts.specs.Lines.{name_of, ClocksText, LineText, Lines, Account};
@@ -133,7 +132,7 @@ impl<'a> Teller<'a> {
     // The lines of a run in columns.
     fn write_lines(&self, text: &mut String, widths: &Widths, moves: &[Move]) -> Result<(), Untold>
         requires { string_bytes text.old ≡ [] }
-        ensures { OnOk result ((a : automata.Automaton) → Views self.now.automaton a → (m : moments.Moment) × Lines a string_bytes self.now.names.clocks.now self.now.names.positions.now widths.now self.now.denominator moves.now m (string_bytes text.new)) }
+        ensures { OnOk result ((m : moments.Moment) × Lines (automaton_value self.now.automaton) string_bytes self.now.names.clocks.now self.now.names.positions.now widths.now self.now.denominator moves.now m (string_bytes text.new)) }
     {
         let mut moment = begin(&self.automaton)?;
         for next in moves {
@@ -152,7 +151,7 @@ pub fn write_run(
     denominator: u64,
     moves: &[Move],
 ) -> Result<String, Untold>
-    ensures { IfOk result (λ text. (a : automata.Automaton) → Views automaton.now a → Account a string_bytes names.entry.clocks.now names.entry.positions.now denominator moves.now (string_bytes text)) }
+    ensures { IfOk result (λ text. Account (automaton_value automaton.now) string_bytes names.entry.clocks.now names.entry.positions.now denominator moves.now (string_bytes text)) }
 {
     let teller = Teller {
         heap,

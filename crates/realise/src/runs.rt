@@ -1,7 +1,6 @@
 // Runs along a way: the instants get fractions, and what comes out is gone through again before it is given away.
 ghost use Rattle.std.specs.Prelude.{◌≡◌, ◌+◌, ◌*◌, ◌≤◌, IfOk};
-ghost use Rattle.automata.specs.Automata as automata;
-ghost use Rattle.rows.specs.Views.{Views};
+ghost use Rattle.rows.specs.Views.{automaton_value};
 ghost use Rattle.replay.specs.Checks.{Decides};
 ghost use Rattle.realise.specs.Runs.{part_of, wait_count, Ends, Realised};
 
@@ -127,7 +126,7 @@ fn end_of(
     location: Location,
     arrival: Arrival,
 ) -> Result<Moment, Failure>
-    ensures { IfOk result (λ end. (a : automata.Automaton) → Views automaton.now a → Ends a location.0 arrival denominator moves.now end) }
+    ensures { IfOk result (λ end. Ends (automaton_value automaton.now) location.0 arrival denominator moves.now end) }
 {
     let end = replay(automaton, denominator, moves)?;
     if end.location != location || !in_time(arrival, denominator, end.time) {
@@ -147,7 +146,7 @@ pub fn realise(
     location: Location,
     arrival: Arrival,
 ) -> Result<Run, Failure>
-    ensures { IfOk result (λ run. (a : automata.Automaton) → Views automaton.now a → Realised a location.0 arrival run) }
+    ensures { IfOk result (λ run. Realised (automaton_value automaton.now) location.0 arrival run) }
 {
     let (denominator, moves) = moves_along(heap, automaton, way, arrival)?;
     let end = end_of(automaton, denominator, moves.as_slice(), location, arrival)?;

@@ -1,16 +1,14 @@
 -- All constraints of a conjunction, one after the other.
-use Rattle.std.proofs.Common.{◌≡◌, ℕ, zero, suc, ◌<◌, Bool, true, false, List, [], ◌∷◌, Option, length, get_or, refl, subst, ap, ◌∙◌, arith}
+use Rattle.std.proofs.Common.{◌≡◌, ℕ, zero, suc, ◌<◌, Bool, true, false, List, [], ◌∷◌, Option, length, get_or, refl, subst, ap, arith}
 use mathlib.Core.Option.{some}
 use Rattle.std.specs.Bool.{MatchBool}
 use Rattle.std.specs.List.{AllWithin, HoldsAt}
 use Rattle.std.proofs.lemmas.Iterator.{YieldsList}
 use Rattle.std.proofs.lemmas.Iterator.Consumers.{YieldsList-from_shown}
-use Rattle.automata.specs.Automata.{nth, Relation, at_most, below, at_least, above, Constraint}
-use Rattle.automata.specs.Rows.{code, write_constraints}
+use Rattle.automata.specs.Automata.{nth, at_most, Constraint}
 use Rattle.rows.specs.declared.constraints.Constraint as constraints
 use Rattle.rows.specs.declared.constraints.Constraints.{Constraints}
 use Rattle.rows.specs.Parts.{constraint_value}
-use Rattle.rows.specs.Parse.{relation_of}
 use Rattle.rows.specs.Values.{constraints_value, NextConstraint}
 use Rattle.replay.specs.Checks.{Decides, MeetsParts, HoldsParts}
 use Rattle.replay.proofs.Lists.{some_within, some_same}
@@ -41,18 +39,3 @@ Steps s r t = NextConstraint (constraints_value s.words.now) r (constraints_valu
 
 pub yields : (s : Constraints) → YieldsList Steps constraint_value s (constraints_value s.words.now)
 yields = YieldsList-from_shown Steps constraint_value (λ s. constraints_value s.words.now) (λ s t e. ap length e) (λ s x t e. e)
-
-relation_back : (r : Relation) → relation_of (code r) ≡ r
-relation_back at_most = refl
-relation_back below = refl
-relation_back at_least = refl
-relation_back above = refl
-
-pub written : (cs : List Constraint) → constraints_value (write_constraints cs) ≡ cs
-written [] = refl
-written (c ∷ cs) =
-    ap (λ (r : Relation). record { clock = c.clock; relation = r; bound = c.bound } ∷ constraints_value (write_constraints cs)) (relation_back c.relation)
-    ∙ ap (λ (ds : List Constraint). c ∷ ds) (written cs)
-
-pub written_as : (ws : List ℕ) (cs : List Constraint) → ws ≡ write_constraints cs → constraints_value ws ≡ cs
-written_as ws cs e = ap constraints_value e ∙ written cs

@@ -1,9 +1,8 @@
 // What a wait and an edge do to the clocks, and which edge has a number.
 ghost use Rattle.std.specs.Prelude.{◌≡◌, ℕ, ◌<◌, if◌then◌else◌, MatchOption, slice_index};
-ghost use Rattle.automata.specs.Automata as automata;
 ghost use Rattle.automata.specs.Automata.{nth};
 ghost use Rattle.regions.specs.Moves.{among};
-ghost use Rattle.rows.specs.Views.{Views};
+ghost use Rattle.rows.specs.Views.{automaton_value};
 ghost use Rattle.replay.specs.Changes.{Waited, NoRoomFor, EdgeNumber};
 
 use crate::moments::Moment;
@@ -43,7 +42,7 @@ pub fn with_resets(clocks: [u64; CLOCKS], resets: &[u32]) -> [u64; CLOCKS]
 
 // The edge of a number, from 0 in the order of the row.
 pub(crate) fn numbered_edge<'a>(automaton: &Automaton<'a>, number: u32) -> Option<Edge<'a>>
-    ensures { (a : automata.Automaton) → Views automaton.now a → EdgeNumber (nth a.edges number) result }
+    ensures { EdgeNumber (nth (automaton_value automaton.now).edges number) result }
 {
     automaton.edges().nth(number as usize)
 }

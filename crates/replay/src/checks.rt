@@ -1,10 +1,9 @@
 // Whether constraints hold of clocks whose values are numbers of d-ths.
 ghost use Rattle.std.specs.Prelude.{◌≡◌, slice_index};
-ghost use Rattle.automata.specs.Automata as automata;
 ghost use Rattle.automata.specs.Automata.{invariant};
 ghost use Rattle.rows.specs.Parts.{relation_value};
 ghost use Rattle.rows.specs.Values.{conjunction_value};
-ghost use Rattle.rows.specs.Views.{Views};
+ghost use Rattle.rows.specs.Views.{automaton_value};
 ghost use Rattle.replay.specs.Checks.{Decides, MeetsParts, HoldsParts};
 
 use rows::constraints::{Clock, Conjunction, Relation};
@@ -44,7 +43,7 @@ pub fn allowed(
     denominator: u64,
     clocks: &[u64; CLOCKS],
 ) -> bool
-    ensures { (a : automata.Automaton) → Views automaton.now a → Decides result (HoldsParts denominator (slice_index clocks.now) (invariant a location.0)) }
+    ensures { Decides result (HoldsParts denominator (slice_index clocks.now) (invariant (automaton_value automaton.now) location.0)) }
 {
     match automaton.invariant(location) {
         Some(conjunction) => holds(&conjunction, denominator, clocks),

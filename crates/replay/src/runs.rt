@@ -1,8 +1,7 @@
 // Runs, followed move by move.
 ghost use Rattle.std.specs.Prelude.{◌≡◌, ◌≤◌, MatchResult};
-ghost use Rattle.automata.specs.Automata as automata;
 ghost use Rattle.automata.specs.Automata.{invariant};
-ghost use Rattle.rows.specs.Views.{Views};
+ghost use Rattle.rows.specs.Views.{automaton_value};
 ghost use Rattle.replay.specs.Checks.{Decides, HoldsParts};
 ghost use Rattle.replay.specs.Meaning.{clock_of};
 ghost use Rattle.replay.specs.declared.moments.Move.TheVariants.{Wait, Step};
@@ -18,7 +17,7 @@ use rows::views::Automaton;
 
 // The start of every run: location 0, all clocks 0, at time 0.
 pub fn begin(automaton: &Automaton) -> Result<Moment, Fault>
-    ensures { (a : automata.Automaton) → Views automaton.now a → Begins a result }
+    ensures { Begins (automaton_value automaton.now) result }
 {
     let start = Moment {
         location: Location(0),
@@ -55,7 +54,7 @@ impl<'a> Player<'a> {
 
     // Whether the invariant of the moment's location holds.
     fn is_allowed(&self, moment: &Moment) -> bool
-        ensures { (a : automata.Automaton) → Views self.now.automaton a → Decides result (HoldsParts self.now.denominator (clock_of moment.now) (invariant a moment.now.location.0)) }
+        ensures { Decides result (HoldsParts self.now.denominator (clock_of moment.now) (invariant (automaton_value self.now.automaton) moment.now.location.0)) }
     {
         allowed(
             &self.automaton,
@@ -67,7 +66,7 @@ impl<'a> Player<'a> {
 
     // One wait.
     fn wait(&self, moment: &Moment, delay: u64) -> Result<Moment, Fault>
-        ensures { (a : automata.Automaton) → Views self.now.automaton a → Advances a self.now.denominator moment.now (Wait delay) result }
+        ensures { Advances (automaton_value self.now.automaton) self.now.denominator moment.now (Wait delay) result }
     {
         let later = waited(moment, delay).ok_or(Fault::NoRoom)?;
         if !self.is_allowed(&later) {
@@ -78,7 +77,7 @@ impl<'a> Player<'a> {
 
     // One edge.
     fn step(&self, moment: &Moment, number: u32) -> Result<Moment, Fault>
-        ensures { (a : automata.Automaton) → Views self.now.automaton a → Advances a self.now.denominator moment.now (Step number) result }
+        ensures { Advances (automaton_value self.now.automaton) self.now.denominator moment.now (Step number) result }
     {
         let edge = numbered_edge(&self.automaton, number).ok_or(Fault::NoSuchStep)?;
         if edge.source != moment.location {
@@ -99,7 +98,7 @@ impl<'a> Player<'a> {
     }
 
     fn advance(&self, moment: &Moment, by: Move) -> Result<Moment, Fault>
-        ensures { (a : automata.Automaton) → Views self.now.automaton a → Advances a self.now.denominator moment.now by result }
+        ensures { Advances (automaton_value self.now.automaton) self.now.denominator moment.now by result }
     {
         match by {
             Move::Wait(delay) => self.wait(moment, delay),
@@ -115,7 +114,7 @@ pub fn advance(
     moment: &Moment,
     by: Move,
 ) -> Result<Moment, Fault>
-    ensures { (a : automata.Automaton) → Views automaton.now a → Advances a denominator moment.now by result }
+    ensures { Advances (automaton_value automaton.now) denominator moment.now by result }
 {
     Player::new(automaton, denominator)?.advance(moment, by)
 }
@@ -123,7 +122,7 @@ pub fn advance(
 // Goes through all moves, from the start. What is accepted is a run to that location at that time; what is refused is none,
 // unless a number has no room or the denominator is 0.
 pub fn replay(automaton: &Automaton, denominator: u64, moves: &[Move]) -> Result<Moment, Fault>
-    ensures { (a : automata.Automaton) → Views automaton.now a → Replays a denominator moves.now result }
+    ensures { Replays (automaton_value automaton.now) denominator moves.now result }
 {
     let player = Player::new(automaton, denominator)?;
     let mut moment = begin(automaton)?;

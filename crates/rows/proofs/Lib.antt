@@ -3,3 +3,5 @@ pub mod Round
 pub mod Walking
 pub mod Whole
 pub mod Parts
+pub mod Values
+pub mod Invariants

@@ -2,10 +2,8 @@
 use Rattle.std.proofs.Common.{◌≡◌, ℕ, zero, suc, ◌+◌, ◌-◌, ◌*◌, ◌<◌, ◌≤◌, List, [], ◌∷◌, ◌++◌, length, get_or, take, drop, sym, refl, ap, ◌∙◌, subst, append_assoc, add-one, arith, length-append, length-drop, drop-cons, drop-drop}
 use mathlib.Core.Option.{some, none}
 use lib.Seq.{drop-append_seam}
-use Rattle.automata.specs.Automata.{nth, Relation, Constraint}
-use Rattle.automata.specs.Rows.{code, write_constraints, write_invariants}
-use Rattle.rows.specs.Parse.{constraint}
-use Rattle.rows.proofs.Round.{relation_of-code}
+use Rattle.automata.specs.Automata.{nth, Constraint}
+use Rattle.automata.specs.Rows.{write_constraints, write_invariants}
 
 pub nth-behind : {A : Type 0} (xs : List A) (i : ℕ) → length xs ≤ i → nth xs i ≡ none
 nth-behind [] i h = refl
@@ -16,32 +14,14 @@ pub length-constraints : (cs : List Constraint) → length (write_constraints cs
 length-constraints [] = refl
 length-constraints (c ∷ cs) = omega (arith, length-constraints cs)
 
-abbrev constraint_at : List ℕ → ℕ → Constraint
-constraint_at ws at = constraint (get_or ws at 0) (get_or ws (at + 1) 0) (get_or ws (at + 2) 0)
-
-shifted : (a b c : ℕ) (ws : List ℕ) (i j : ℕ) → j ≡ suc (suc (suc i)) → get_or (a ∷ b ∷ c ∷ ws) j 0 ≡ get_or ws i 0
-shifted a b c ws i j e = rw e
-
-pub constraint-at : (cs : List Constraint) (i : ℕ) → i < length cs → nth cs i ≡ some (constraint_at (write_constraints cs) (3 * i))
-constraint-at [] i h = absurd (omega arith)
-constraint-at (c ∷ cs) zero h =
-    ap (λ (r : Relation). some (record { clock = c.clock; relation = r; bound = c.bound })) (sym (relation_of-code c.relation))
-constraint-at (c ∷ cs) (suc i) h =
-    let ih = constraint-at cs i (omega arith) in
-    let ws : List ℕ = write_constraints cs in
-    let e = shifted c.clock (code c.relation) c.bound ws (3 * i) (3 * suc i) (omega arith) in
-    let f = shifted c.clock (code c.relation) c.bound ws (3 * i + 1) (3 * suc i + 1) (omega arith) in
-    let g = shifted c.clock (code c.relation) c.bound ws (3 * i + 2) (3 * suc i + 2) (omega arith) in
-    rw (e, f, g) ih
-
 -- a list that begins at a place: its first word, and what stands behind it
 pub starts_within : (row : List ℕ) (at : ℕ) (w : ℕ) (ws : List ℕ) → drop at row ≡ w ∷ ws → at < length row
 starts_within row at w ws e = let l : length (drop at row) ≡ suc (length ws) = ap length e in omega (arith, simp length-drop at l)
 
-head_is : (a b : ℕ) (xs ys : List ℕ) → a ∷ xs ≡ b ∷ ys → a ≡ b
+pub head_is : (a b : ℕ) (xs ys : List ℕ) → a ∷ xs ≡ b ∷ ys → a ≡ b
 head_is a b xs ys e = cc
 
-tail_is : (a b : ℕ) (xs ys : List ℕ) → a ∷ xs ≡ b ∷ ys → xs ≡ ys
+pub tail_is : (a b : ℕ) (xs ys : List ℕ) → a ∷ xs ≡ b ∷ ys → xs ≡ ys
 tail_is a b xs ys e = cc
 
 pub first-is : (row : List ℕ) (at w : ℕ) (ws : List ℕ) → drop at row ≡ w ∷ ws → get_or row at 0 ≡ w

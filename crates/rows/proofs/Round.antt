@@ -1,6 +1,8 @@
 -- What is written is read back, and what is read is what was written.
 use Rattle.std.proofs.Common.{◌≡◌, ℕ, zero, suc, ◌<◌, ◌≤◌, Bool, true, false, cond, ◌&&◌, T, ltb, leb, List, [], ◌∷◌, ◌++◌, length, sym, refl, ap, ◌∙◌, subst, append_assoc, arith, length-append, ltb-true, lt-ltb, le-leb, leb-true}
 use mathlib.Core.Option.{Option, some, none}
+use Rattle.std.proofs.lemmas.Bool.{and_parts, and_from}
+use Rattle.std.proofs.lemmas.Float.{T_from_true}
 use Rattle.automata.specs.Automata.{Relation, at_most, below, at_least, above, Constraint, Edge, Automaton}
 use Rattle.automata.specs.Rows.{code, upper, write_constraints, write_invariants, write_edges, write, fine_constraint, fine_guard, fine_invariant, fine_invariants, fine_resets, fine_edge, fine_edges, fine, Reads}
 use Rattle.automata.specs.Statements.{OneAutomaton}
@@ -8,22 +10,10 @@ use Rattle.rows.specs.Parse.{Outcome, prepend, and_then, relation_of, upper_only
 use Rattle.rows.specs.Parts.{edge_words}
 use Rattle.rows.specs.Statements.{RowsRound}
 
--- tests joined by `&&`
-pub both : (x y : Bool) → (x && y) ≡ true → (x ≡ true) × (y ≡ true)
-both true y e = (refl, e)
-both false y e = let z : ◌≡◌ {A = ℕ} 0 1 = cc in absurd (omega arith)
-
-pub joined : (x y : Bool) → x ≡ true → y ≡ true → (x && y) ≡ true
-joined true y e f = f
-joined false y e f = e
-
+-- a test that is true
 pub from_T : (x : Bool) → T x → x ≡ true
 from_T true t = refl
 from_T false t = absurd t
-
-pub to_T : (x : Bool) → x ≡ true → T x
-to_T true e = tt
-to_T false e = let z : ◌≡◌ {A = ℕ} 0 1 = cc in absurd (omega arith)
 
 -- relations and their codes
 pub relation_of-code : (r : Relation) → relation_of (code r) ≡ r
@@ -62,27 +52,27 @@ pub data Fitting (clocks relations : ℕ) : List Constraint → Type 0 where
 -- the tests of a constraint as facts, and back
 pub fits-parts : (n r c k b : ℕ) → fits n r c k b ≡ true → (c < n) × (k < r) × (b ≤ 10000)
 fits-parts n r c k b e =
-    let s = both (ltb c n) (ltb k r && leb b 10000) e in
-    let t = both (ltb k r) (leb b 10000) s.1 in
+    let s = and_parts (ltb c n) (ltb k r && leb b 10000) e in
+    let t = and_parts (ltb k r) (leb b 10000) s.1 in
     (ltb-true c n s.0, ltb-true k r t.0, leb-true b 10000 t.1)
 
 pub fits-from : (n r c k b : ℕ) → c < n → k < r → b ≤ 10000 → fits n r c k b ≡ true
 fits-from n r c k b h i j =
-    joined (ltb c n) (ltb k r && leb b 10000) (lt-ltb c n h) (joined (ltb k r) (leb b 10000) (lt-ltb k r i) (le-leb b 10000 j))
+    and_from (ltb c n) (ltb k r && leb b 10000) (lt-ltb c n h) (and_from (ltb k r) (leb b 10000) (lt-ltb k r i) (le-leb b 10000 j))
 
 fine-parts : (n : ℕ) (c : Constraint) → fine_constraint n c ≡ true → (c.clock < n) × (c.bound ≤ 10000)
 fine-parts n c e =
-    let s = both (ltb c.clock n) (leb c.bound 10000) e in
+    let s = and_parts (ltb c.clock n) (leb c.bound 10000) e in
     (ltb-true c.clock n s.0, leb-true c.bound 10000 s.1)
 
 fine-from : (n : ℕ) (c : Constraint) → c.clock < n → c.bound ≤ 10000 → fine_constraint n c ≡ true
 fine-from n c h i =
-    joined (ltb c.clock n) (leb c.bound 10000) (lt-ltb c.clock n h) (le-leb c.bound 10000 i)
+    and_from (ltb c.clock n) (leb c.bound 10000) (lt-ltb c.clock n h) (le-leb c.bound 10000 i)
 
 fitting_guard : (n : ℕ) (cs : List Constraint) → fine_guard n cs ≡ true → Fitting n all_relations cs
 fitting_guard n [] e = fit_none
 fitting_guard n (c ∷ cs) e =
-    let s = both (fine_constraint n c) (fine_guard n cs) e in
+    let s = and_parts (fine_constraint n c) (fine_guard n cs) e in
     let t = fine-parts n c s.0 in
     fit_more
     (fits-from n all_relations c.clock (code c.relation) c.bound t.0 (code-small c.relation) t.1)
@@ -92,13 +82,13 @@ guard_fitting : (n : ℕ) {cs : List Constraint} → Fitting n all_relations cs 
 guard_fitting n fit_none = refl
 guard_fitting n (fit_more {c = c} {cs = cs} e f) =
     let t = fits-parts n all_relations c.clock (code c.relation) c.bound e in
-    joined (fine_constraint n c) (fine_guard n cs) (fine-from n c t.0 t.2) (guard_fitting n f)
+    and_from (fine_constraint n c) (fine_guard n cs) (fine-from n c t.0 t.2) (guard_fitting n f)
 
 fitting_invariant : (n : ℕ) (cs : List Constraint) → fine_invariant n cs ≡ true → Fitting n upper_only cs
 fitting_invariant n [] e = fit_none
 fitting_invariant n (c ∷ cs) e =
-    let s = both (fine_constraint n c && upper c.relation) (fine_invariant n cs) e in
-    let t = both (fine_constraint n c) (upper c.relation) s.0 in
+    let s = and_parts (fine_constraint n c && upper c.relation) (fine_invariant n cs) e in
+    let t = and_parts (fine_constraint n c) (upper c.relation) s.0 in
     let u = fine-parts n c t.0 in
     fit_more
     (fits-from n upper_only c.clock (code c.relation) c.bound u.0 (upper-code c.relation t.1) u.1)
@@ -114,10 +104,10 @@ invariant-fitting : (n : ℕ) {cs : List Constraint} → Fitting n upper_only cs
 invariant-fitting n fit_none = refl
 invariant-fitting n (fit_more {c = c} {cs = cs} e f) =
     let t = fits-parts n upper_only c.clock (code c.relation) c.bound e in
-    joined
+    and_from
     (fine_constraint n c && upper c.relation)
     (fine_invariant n cs)
-    (joined (fine_constraint n c) (upper c.relation) (fine-from n c t.0 t.2) (upper_of c.relation t.1))
+    (and_from (fine_constraint n c) (upper c.relation) (fine-from n c t.0 t.2) (upper_of c.relation t.1))
     (invariant-fitting n f)
 
 -- what is written is read back, whatever stands after it
@@ -133,20 +123,20 @@ read_invariants : (n : ℕ) (rest : List ℕ) (css : List (List Constraint))
     → parse_invariants n (length css) (write_invariants css ++ rest) ≡ some (css, rest)
 read_invariants n rest [] e = refl
 read_invariants n rest (cs ∷ css) e =
-    let s = both _ _ e in
+    let s = and_parts _ _ e in
     rw
     (append_assoc (write_constraints cs) (write_invariants css) rest, read_constraints n upper_only (write_invariants css ++ rest) (fitting_invariant n cs s.0), read_invariants n rest css s.1)
 
 read_clocks : (n : ℕ) (rest xs : List ℕ) → fine_resets n xs ≡ true → parse_clocks n (length xs) (xs ++ rest) ≡ some (xs, rest)
 read_clocks n rest [] e = refl
-read_clocks n rest (x ∷ xs) e = let s = both (ltb x n) (fine_resets n xs) e in rw (s.0, read_clocks n rest xs s.1)
+read_clocks n rest (x ∷ xs) e = let s = and_parts (ltb x n) (fine_resets n xs) e in rw (s.0, read_clocks n rest xs s.1)
 
 fine_edge-parts : (n p : ℕ) (e : Edge)
     → fine_edge n p e ≡ true
     → ((ltb e.source p && ltb e.target p) ≡ true) × (fine_guard n e.guard ≡ true) × (fine_resets n e.resets ≡ true)
 fine_edge-parts n p e h =
-    let s = both (ltb e.source p && ltb e.target p) (fine_guard n e.guard && fine_resets n e.resets) h in
-    let t = both (fine_guard n e.guard) (fine_resets n e.resets) s.1 in
+    let s = and_parts (ltb e.source p && ltb e.target p) (fine_guard n e.guard && fine_resets n e.resets) h in
+    let t = and_parts (fine_guard n e.guard) (fine_resets n e.resets) s.1 in
     (s.0, t.0, t.1)
 
 read_edge : (n p : ℕ) (rest : List ℕ) (e : Edge)
@@ -164,7 +154,7 @@ read_edges : (n p fuel : ℕ) (es : List Edge)
 read_edges n p fuel [] h e = refl
 read_edges n p zero (x ∷ es) h e = absurd (omega arith)
 read_edges n p (suc fuel) (x ∷ es) h e =
-    let s = both (fine_edge n p x) (fine_edges n p es) e in
+    let s = and_parts (fine_edge n p x) (fine_edges n p es) e in
     let shorter : length (write_edges es) ≤ fuel = omega (arith, simp length-append at h) in
     rw (read_edge n p (write_edges es) x s.0, read_edges n p fuel es shorter s.1)
 
@@ -185,9 +175,9 @@ complete row a r = subst (λ (ws : List ℕ). parse ws ≡ some a) r.written who
 
     parts : (limits ≡ true) × (places ≡ true) × (fine_invariants n a.invariants ≡ true) × (fine_edges n p a.edges ≡ true)
     parts =
-        let s = both limits (places && (fine_invariants n a.invariants && fine_edges n p a.edges)) (from_T (fine a) r.sound) in
-        let t = both places (fine_invariants n a.invariants && fine_edges n p a.edges) s.1 in
-        let u = both (fine_invariants n a.invariants) (fine_edges n p a.edges) t.1 in
+        let s = and_parts limits (places && (fine_invariants n a.invariants && fine_edges n p a.edges)) (from_T (fine a) r.sound) in
+        let t = and_parts places (fine_invariants n a.invariants && fine_edges n p a.edges) s.1 in
+        let u = and_parts (fine_invariants n a.invariants) (fine_edges n p a.edges) t.1 in
         (s.0, t.0, u.0, u.1)
 
     short : leb (length (write a)) 16384 ≡ true
@@ -195,7 +185,7 @@ complete row a r = subst (λ (ws : List ℕ). parse ws ≡ some a) r.written who
 
     open_tests : (limits && (places && leb (length (write a)) 16384)) ≡ true
     open_tests =
-        joined limits (places && leb (length (write a)) 16384) parts.0 (joined places (leb (length (write a)) 16384) parts.1 short)
+        and_from limits (places && leb (length (write a)) 16384) parts.0 (and_from places (leb (length (write a)) 16384) parts.1 short)
 
     whole : parse (write a) ≡ some a
     whole =
@@ -266,7 +256,7 @@ written_invariants n (suc p) ws =
     more cs rest (some x) w v = (
       ap (λ (z : List ℕ). length cs ∷ z) (append_assoc (write_constraints cs) (write_invariants x.0) x.1 ∙ ap (λ (z : List ℕ). write_constraints cs ++ z) v.0) ∙ w.0,
       ap suc v.1,
-      joined (fine_invariant n cs) (fine_invariants n x.0) (invariant-fitting n w.1) v.2,
+      and_from (fine_invariant n cs) (fine_invariants n x.0) (invariant-fitting n w.1) v.2,
     )
 
     go : (o : Outcome (List Constraint))
@@ -296,7 +286,7 @@ written_clocks n (suc k) (x ∷ ws) = go (ltb x n) refl (parse_clocks n k ws) (w
         (cond t (prepend x o) none)
     go false e o w = tt
     go true e none w = tt
-    go true e (some y) w = (ap (λ (z : List ℕ). x ∷ z) w.0, ap suc w.1, joined (ltb x n) (fine_resets n y.0) e w.2)
+    go true e (some y) w = (ap (λ (z : List ℕ). x ∷ z) w.0, ap suc w.1, and_from (ltb x n) (fine_resets n y.0) e w.2)
 
 written_resets : (n : ℕ) (ws : List ℕ)
     → Written (λ xs rest. (length xs ∷ (xs ++ rest) ≡ ws) × (fine_resets n xs ≡ true)) (parse_resets n ws)
@@ -330,7 +320,7 @@ written_edge n p (s ∷ t ∷ ws) =
     last guard rest none h w v = tt
     last guard rest (some x) h w v = (
       ap (λ (z : List ℕ). s ∷ t ∷ z) (ap (λ (z : List ℕ). length guard ∷ (write_constraints guard ++ z)) v.0 ∙ w.0),
-      joined (ltb s p && ltb t p) (fine_guard n guard && fine_resets n x.0) h (joined (fine_guard n guard) (fine_resets n x.0) (guard_fitting n w.1) v.1),
+      and_from (ltb s p && ltb t p) (fine_guard n guard && fine_resets n x.0) h (and_from (fine_guard n guard) (fine_resets n x.0) (guard_fitting n w.1) v.1),
     )
 
     go : (b : Bool)
@@ -366,7 +356,7 @@ written_edges n p (suc fuel) (w ∷ ws) =
     more e rest (some x) h v = (
       v.0,
       ap (edge_words e) v.1 ∙ h.0,
-      joined (fine_edge n p e) (fine_edges n p x.0) h.1 v.2,
+      and_from (fine_edge n p e) (fine_edges n p x.0) h.1 v.2,
     )
 
     go : (o : Outcome Edge)
@@ -402,8 +392,8 @@ reads_it (c ∷ p ∷ ws) = go limits refl (parse_invariants c p ws) (written_in
         (and_then o (λ edges end. some (record { clocks = c; invariants = css; edges = edges })))
     last css rest none h w v = tt
     last css rest (some x) h w v =
-        let s = both (leb 1 c && leb c 8) ((leb 1 p && leb p 256) && leb (length (c ∷ p ∷ ws)) 16384) h in
-        let t = both (leb 1 p && leb p 256) (leb (length (c ∷ p ∷ ws)) 16384) s.1 in
+        let s = and_parts (leb 1 c && leb c 8) ((leb 1 p && leb p 256) && leb (length (c ∷ p ∷ ws)) 16384) h in
+        let t = and_parts (leb 1 p && leb p 256) (leb (length (c ∷ p ∷ ws)) 16384) s.1 in
         let same : p ≡ length css = sym w.1 in
         let locations : (leb 1 (length css) && leb (length css) 256) ≡ true =
         subst (λ (m : ℕ). (leb 1 m && leb m 256) ≡ true) same t.0 in
@@ -412,17 +402,17 @@ reads_it (c ∷ p ∷ ws) = go limits refl (parse_invariants c p ws) (written_in
           written =
               ap (λ (m : ℕ). c ∷ m ∷ (write_invariants css ++ write_edges x.0)) w.1 ∙ ap (λ (z : List ℕ). c ∷ p ∷ z) (ap (λ (z : List ℕ). write_invariants css ++ z) v.1 ∙ w.0);
           sound =
-              to_T
+              T_from_true
               _
-              (joined
+              (and_from
               (leb 1 c && leb c 8)
               ((leb 1 (length css) && leb (length css) 256) && (fine_invariants c css && fine_edges c (length css) x.0))
               s.0
-              (joined
+              (and_from
               (leb 1 (length css) && leb (length css) 256)
               (fine_invariants c css && fine_edges c (length css) x.0)
               locations
-              (joined (fine_invariants c css) (fine_edges c (length css) x.0) w.2 edges)));
+              (and_from (fine_invariants c css) (fine_edges c (length css) x.0) w.2 edges)));
           short = leb-true (length (c ∷ p ∷ ws)) 16384 t.1;
         }
 

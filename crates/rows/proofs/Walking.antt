@@ -1,10 +1,11 @@
 -- Going over a row word by word: what each step says of the reading from there on.
-use Rattle.std.proofs.Common.{◌≡◌, ℕ, zero, suc, ◌+◌, ◌-◌, ◌<◌, ◌≤◌, true, false, List, [], ◌∷◌, length, get_or, drop, refl, ap, subst, add-one, arith, length-append, length-drop, drop_of_length-le, drop-cons, le-ltb, lt-ltb}
+use Rattle.std.proofs.Common.{◌≡◌, ℕ, zero, suc, ◌+◌, ◌-◌, ◌<◌, ◌≤◌, true, false, List, [], ◌∷◌, length, get_or, drop, Ok, Err, Result, refl, ap, ◌∙◌, subst, zero-add, add-one, arith, length-append, length-drop, drop_of_length-le, drop-cons, le-ltb, lt-ltb}
 use mathlib.Core.Option.{some, none}
 use borrow.Author.Tests.{lt-leb}
 use Rattle.automata.specs.Automata.{Constraint, Edge}
 use Rattle.rows.specs.Parse.{Outcome, prepend, and_then, upper_only, all_relations, fits, constraint, parse_constraints, parse_conjunction, parse_invariants, parse_clocks, parse_resets, parse_edge, parse_edges}
-use Rattle.rows.specs.Reading.{Leads}
+use Rattle.rows.specs.declared.refusals.Refusal.{Refusal}
+use Rattle.rows.specs.Reading.{Leads, Repeats, RepeatCases, Repeated, Step, Tells}
 use Rattle.automata.specs.Rows.{fine_edge}
 use Rattle.rows.specs.Parts.{edge_words}
 use Rattle.rows.proofs.Round.{Written, written_edge}
@@ -53,22 +54,53 @@ leads_prepend x (some r) =
       reads = λ v rest e. (x ∷ r.0, cc);
     }
 
--- a list that is read by its number of elements: one more of it, none of it, and its end
-module _ {A B : Type 0} (parse : ℕ → List ℕ → Outcome A) {y : Outcome B} (k j : ℕ) (ws : List ℕ) (so_far : Leads (parse (k - j) ws) y) where
-  pub one_more : (next : List ℕ) → j < k → ((m : ℕ) → Leads (parse m next) (parse (suc m) ws)) → Leads (parse (k - (j + 1)) next) y
-  one_more next h step =
-      let e : k - j ≡ suc (k - (j + 1)) = omega arith in
-      leads_trans (step (k - (j + 1))) (subst (λ (m : ℕ). Leads (parse m ws) y) e so_far)
+-- a list that is read by its number of elements, element by element, each where the one before ended
+module _ {A : Type 0} (parse : ℕ → List ℕ → Outcome A) (row : List ℕ) (call : ℕ → Result ℕ Refusal → Type 0) (step : (at : ℕ) (r : Result ℕ Refusal) → call at r → Step parse row at r) where
+  repeats-lead : (n from end : ℕ)
+      → from ≤ length row
+      → Repeats call n from end
+      → (from + n ≤ end) × (end ≤ length row) × ((k : ℕ) → Leads (parse k (drop end row)) (parse (n + k) (drop from row)))
+  repeats-lead zero from end h e =
+      let lead : (k : ℕ) → Leads (parse k (drop end row)) (parse (0 + k) (drop from row)) = λ k. rw (e, zero-add) (leads_refl _) in
+      (omega arith, omega arith, lead)
+  repeats-lead (suc n) from end h r =
+      let before = repeats-lead n from r.0 h r.1 in
+      let last = step r.0 (Ok end) r.2 in
+      let lead : (k : ℕ) → Leads (parse k (drop end row)) (parse (suc n + k) (drop from row)) =
+      λ k.
+      let e : n + suc k ≡ suc n + k = omega arith in
+      subst (λ (m : ℕ). Leads (parse k (drop end row)) (parse m (drop from row))) e (leads_trans (last.2 k) (before.2 (suc k))) in
+      (omega (arith, before.0, last.0), last.1, lead)
 
-  pub none_more : j < k → ((m : ℕ) → parse (suc m) ws ≡ none) → y ≡ none
-  none_more h step =
-      let e : k - j ≡ suc (k - (j + 1)) = omega arith in
-      (subst (λ (m : ℕ). Leads (parse m ws) y) e so_far).fails (step (k - (j + 1)))
+  each : (whole : List ℕ → Outcome A) (v : A) (at count from : ℕ)
+      → ((ws : List ℕ) → parse 0 ws ≡ some (v, ws))
+      → whole (drop at row) ≡ parse count (drop from row)
+      → at < from + count
+      → from ≤ length row
+      → (r : Result ℕ Refusal)
+      → RepeatCases call count from r
+      → Tells whole row at r
+  each whole v at count from none_of_it e h i (Ok end) r =
+      let l = repeats-lead count from end i r in
+      let m = (l.2 0).reads v (drop end row) (none_of_it (drop end row)) in
+      let f : count + 0 ≡ count = omega arith in
+      (omega (arith, l.0), l.1, (m.0, e ∙ subst (λ (k : ℕ). parse k (drop from row) ≡ some (m.0, drop end row)) f m.1))
+  each whole v at count from none_of_it e h i (Err x) r =
+      let l = repeats-lead r.0 from r.1 i r.3 in
+      let last = step r.1 (Err x) r.4 in
+      let k : ℕ = count - (r.0 + 1) in
+      let f : r.0 + suc k ≡ count = omega (arith, r.2) in
+      (e ∙ subst (λ (m : ℕ). parse m (drop from row) ≡ none) f ((l.2 (suc k)).fails (last.0 k)), last.1)
 
-  pub no_more : (v : A) → k ≤ j → parse 0 ws ≡ some (v, ws) → (u : B) × (y ≡ some (u, ws))
-  no_more v h e =
-      let f : k - j ≡ 0 = omega arith in
-      (subst (λ (m : ℕ). Leads (parse m ws) y) f so_far).reads v ws e
+pub each-tells : {A : Type 0} {call : ℕ → Result ℕ Refusal → Type 0} (parse : ℕ → List ℕ → Outcome A) (row : List ℕ) (whole : List ℕ → Outcome A) (v : A) (at count from : ℕ) (r : Result ℕ Refusal)
+    → Repeated call count from r
+    → ((next : ℕ) (x : Result ℕ Refusal) → call next x → Step parse row next x)
+    → ((ws : List ℕ) → parse 0 ws ≡ some (v, ws))
+    → whole (drop at row) ≡ parse count (drop from row)
+    → at < from + count
+    → from ≤ length row
+    → Tells whole row at r
+each-tells {call = call} parse row whole v at count from r run step none_of_it e h i = each parse row call step whole v at count from none_of_it e h i r run.cases
 
 -- a constraint
 few_words : (n r k : ℕ) (ws : List ℕ) → length ws < 3 → parse_constraints n r (suc k) ws ≡ none
@@ -113,18 +145,16 @@ conjunction_ends n r row at h = rw (drop_of_length-le row h)
 
 pub conjunction_starts : (n r : ℕ) (row : List ℕ) (at : ℕ)
     → at < length row
-    → Leads (parse_constraints n r (get_or row at 0) (drop (at + 1) row)) (parse_conjunction n r (drop at row))
-conjunction_starts n r row at h = rw (drop-one row at h) (leads_refl _)
+    → parse_conjunction n r (drop at row) ≡ parse_constraints n r (get_or row at 0) (drop (at + 1) row)
+conjunction_starts n r row at h = rw (drop-one row at h)
 
 -- one invariant of the list
-pub invariant-none : (n : ℕ) (ws : List ℕ) → parse_conjunction n upper_only ws ≡ none → (k : ℕ) → parse_invariants n (suc k) ws ≡ none
-invariant-none n ws e k = rw e
-
-pub invariant-more : (n : ℕ) (ws rest : List ℕ) (cs : List Constraint)
-    → parse_conjunction n upper_only ws ≡ some (cs, rest)
-    → (k : ℕ)
-    → Leads (parse_invariants n k rest) (parse_invariants n (suc k) ws)
-invariant-more n ws rest cs e k = rw e (leads_prepend cs (parse_invariants n k rest))
+pub invariant-step : (n : ℕ) (row : List ℕ) (at : ℕ) (r : Result ℕ Refusal)
+    → Tells (parse_conjunction n upper_only) row at r
+    → Step (parse_invariants n) row at r
+invariant-step n row at (Ok end) t =
+    (t.0, t.1, λ k. rw t.2.1 (leads_prepend t.2.0 (parse_invariants n k (drop end row))))
+invariant-step n row at (Err f) t = (λ k. rw t.0, t.1)
 
 -- a clock that is reset
 pub clock-ends : (n : ℕ) (row : List ℕ) (at : ℕ) → length row ≤ at → (k : ℕ) → parse_clocks n (suc k) (drop at row) ≡ none
@@ -146,8 +176,8 @@ resets-end n row at h = rw (drop_of_length-le row h)
 
 pub resets-start : (n : ℕ) (row : List ℕ) (at : ℕ)
     → at < length row
-    → Leads (parse_clocks n (get_or row at 0) (drop (at + 1) row)) (parse_resets n (drop at row))
-resets-start n row at h = rw (drop-one row at h) (leads_refl _)
+    → parse_resets n (drop at row) ≡ parse_clocks n (get_or row at 0) (drop (at + 1) row)
+resets-start n row at h = rw (drop-one row at h)
 
 -- an edge
 few_ends : (n p : ℕ) (ws : List ℕ) → length ws < 2 → parse_edge n p ws ≡ none

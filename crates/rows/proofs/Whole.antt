@@ -1,15 +1,18 @@
 -- A whole row: what its parts say of it.
-use Rattle.std.proofs.Common.{◌≡◌, ℕ, ◌+◌, ◌<◌, ◌≤◌, Bool, true, false, cond, ◌&&◌, leb, List, [], ◌∷◌, ◌++◌, length, get_or, drop, Ok, Err, Result, sym, refl, ap, ◌∙◌, subst, arith, le-leb, leb-true}
+use Rattle.std.proofs.Common.{◌≡◌, ℕ, ◌+◌, ◌<◌, ◌≤◌, Bool, true, false, cond, ◌&&◌, leb, List, [], ◌∷◌, ◌++◌, length, get_or, drop, Ok, Err, Result, sym, refl, subst, arith, le-leb, leb-true}
 use mathlib.Core.Option.{Option, some, none}
 use borrow.Author.Tests.{lt-leb}
+use Rattle.std.proofs.lemmas.Bool.{and_from, and_left, and_right}
 use Rattle.automata.specs.Automata.{Constraint, Edge, Automaton}
 use Rattle.automata.specs.Rows.{Reads, write_invariants, write_edges, fine_invariants, fine_edges}
 use Rattle.rows.specs.declared.refusals.Refusal.{Refusal}
 use Rattle.rows.specs.declared.views.Automaton as view
 use Rattle.rows.specs.Parse.{all_relations, parse_conjunction, parse_invariants, parse_resets, parse_edge, parse_edges, parse}
 use Rattle.rows.specs.Reading.{Wrong, Tells, ReadPost}
-use Rattle.rows.specs.Views.{Made}
-use Rattle.rows.proofs.Round.{joined, complete, sound, one_automaton, Written, written_invariants, written_edges}
+use Rattle.rows.specs.Viewed.{value_of, Viewed}
+use Rattle.rows.specs.Views.{automaton_value}
+use Rattle.rows.proofs.Round.{complete, sound, one_automaton, Written, written_invariants, written_edges}
+use Rattle.rows.proofs.Values.{value_of-is, views}
 use Rattle.rows.proofs.Walking.{edge-resets, edge-read}
 
 -- an edge ends where its resets end
@@ -43,14 +46,6 @@ refused row f e w =
       one = one_automaton;
     }
 
-and_false_right : (x y : Bool) → y ≡ false → (x && y) ≡ false
-and_false_right true y e = e
-and_false_right false y e = refl
-
-and_false_left : (x y : Bool) → x ≡ false → (x && y) ≡ false
-and_false_left true y e = let z : ◌≡◌ {A = ℕ} 0 1 = cc in absurd (omega arith)
-and_false_left false y e = refl
-
 range_false : (low x high : ℕ) → (low ≤ x → high < x) → (leb low x && leb x high) ≡ false
 range_false low x high h = go (leb low x) refl
   where
@@ -68,21 +63,21 @@ parse-long [] h = refl
 parse-long (c ∷ []) h = refl
 parse-long (c ∷ p ∷ ws) h =
     rw
-    (and_false_right (leb 1 c && leb c 8) ((leb 1 p && leb p 256) && leb (length (c ∷ p ∷ ws)) 16384) (and_false_right (leb 1 p && leb p 256) (leb (length (c ∷ p ∷ ws)) 16384) (lt-leb (length (c ∷ p ∷ ws)) 16384 h)))
+    (and_right (leb 1 c && leb c 8) ((leb 1 p && leb p 256) && leb (length (c ∷ p ∷ ws)) 16384) (and_right (leb 1 p && leb p 256) (leb (length (c ∷ p ∷ ws)) 16384) (lt-leb (length (c ∷ p ∷ ws)) 16384 h)))
 
 pub parse-clocks : (row : List ℕ) → (1 ≤ get_or row 0 0 → 8 < get_or row 0 0) → parse row ≡ none
 parse-clocks [] h = refl
 parse-clocks (c ∷ []) h = refl
 parse-clocks (c ∷ p ∷ ws) h =
     rw
-    (and_false_left (leb 1 c && leb c 8) ((leb 1 p && leb p 256) && leb (length (c ∷ p ∷ ws)) 16384) (range_false 1 c 8 h))
+    (and_left (leb 1 c && leb c 8) ((leb 1 p && leb p 256) && leb (length (c ∷ p ∷ ws)) 16384) (range_false 1 c 8 h))
 
 pub parse-locations : (row : List ℕ) → (1 ≤ get_or row 1 0 → 256 < get_or row 1 0) → parse row ≡ none
 parse-locations [] h = refl
 parse-locations (c ∷ []) h = refl
 parse-locations (c ∷ p ∷ ws) h =
     rw
-    (and_false_right (leb 1 c && leb c 8) ((leb 1 p && leb p 256) && leb (length (c ∷ p ∷ ws)) 16384) (and_false_left (leb 1 p && leb p 256) (leb (length (c ∷ p ∷ ws)) 16384) (range_false 1 p 256 h)))
+    (and_right (leb 1 c && leb c 8) ((leb 1 p && leb p 256) && leb (length (c ∷ p ∷ ws)) 16384) (and_left (leb 1 p && leb p 256) (leb (length (c ∷ p ∷ ws)) 16384) (range_false 1 p 256 h)))
 
 pub parse-invariants : (row : List ℕ) → 2 ≤ length row → parse_invariants (get_or row 0 0) (get_or row 1 0) (drop 2 row) ≡ none → parse row ≡ none
 parse-invariants [] h e = refl
@@ -107,7 +102,7 @@ parse-edges (c ∷ p ∷ ws) css rest e f =
     go false = refl
 
 range_true : (low x high : ℕ) → low ≤ x → x ≤ high → (leb low x && leb x high) ≡ true
-range_true low x high h i = joined (leb low x) (leb x high) (le-leb low x h) (le-leb x high i)
+range_true low x high h i = and_from (leb low x) (leb x high) (le-leb low x h) (le-leb x high i)
 
 parse-row : (row : List ℕ) (css : List (List Constraint)) (rest : List ℕ) (es : List Edge) (end : List ℕ)
     → 2 ≤ length row
@@ -123,10 +118,10 @@ parse-row [] css rest es end h i j k l m e f = absurd (omega arith)
 parse-row (c ∷ []) css rest es end h i j k l m e f = absurd (omega arith)
 parse-row (c ∷ p ∷ ws) css rest es end h i j k l m e f =
     rw
-    (joined (leb 1 c && leb c 8) ((leb 1 p && leb p 256) && leb (length (c ∷ p ∷ ws)) 16384) (range_true 1 c 8 j k) (joined (leb 1 p && leb p 256) (leb (length (c ∷ p ∷ ws)) 16384) (range_true 1 p 256 l m) (le-leb (length (c ∷ p ∷ ws)) 16384 i)), e, f)
+    (and_from (leb 1 c && leb c 8) ((leb 1 p && leb p 256) && leb (length (c ∷ p ∷ ws)) 16384) (range_true 1 c 8 j k) (and_from (leb 1 p && leb p 256) (leb (length (c ∷ p ∷ ws)) 16384) (range_true 1 p 256 l m) (le-leb (length (c ∷ p ∷ ws)) 16384 i)), e, f)
 
--- a row that is read is viewed as its automaton
-pub accepted : (row : List ℕ) (v : view.Automaton) (css : List (List Constraint)) (at : ℕ) (es : List Edge) (end : List ℕ)
+-- a row that is read is the writing of the automaton that it stands for
+pub viewed : (row : List ℕ) (css : List (List Constraint)) (at : ℕ) (es : List Edge) (end : List ℕ)
     → 2 ≤ length row
     → length row ≤ 16384
     → 1 ≤ get_or row 0 0
@@ -135,25 +130,16 @@ pub accepted : (row : List ℕ) (v : view.Automaton) (css : List (List Constrain
     → get_or row 1 0 ≤ 256
     → parse_invariants (get_or row 0 0) (get_or row 1 0) (drop 2 row) ≡ some (css, drop at row)
     → parse_edges (get_or row 0 0) (get_or row 1 0) (length (drop at row)) (drop at row) ≡ some (es, end)
-    → Made row (get_or row 0 0) (get_or row 1 0) at v
-    → ReadPost row (Ok v)
-accepted row v css at es end h i j k l m e f made =
+    → Viewed row (get_or row 0 0) (get_or row 1 0) at (value_of row)
+viewed row css at es end h i j k l m e f =
     let a : Automaton = record { clocks = get_or row 0 0; invariants = css; edges = es } in
     let reads : Reads row a = sound row a (parse-row row css (drop at row) es end h i j k l m e f) in
     let w = subst (Written (λ css rest. (write_invariants css ++ rest ≡ drop 2 row) × (length css ≡ get_or row 1 0) × (fine_invariants (get_or row 0 0) css ≡ true))) e (written_invariants (get_or row 0 0) (get_or row 1 0) (drop 2 row)) in
     let u = subst (Written (λ es rest. (rest ≡ []) × (write_edges es ≡ drop at row) × (fine_edges (get_or row 0 0) (get_or row 1 0) es ≡ true))) f (written_edges (get_or row 0 0) (get_or row 1 0) (length (drop at row)) (drop at row)) in
-    record {
-      cases = (
-        made.row_is,
-        (
-          a,
-          record {
-            reads = subst (λ (z : List ℕ). Reads z a) (sym made.row_is) reads;
-            clocks = made.clocks_are;
-            locations = made.locations_are ∙ sym w.1;
-            edges = ap (drop v.edges) made.row_is ∙ ap (λ (z : ℕ). drop z row) made.edges_at ∙ sym u.1;
-          },
-        ),
-      );
-      one = one_automaton;
-    }
+    subst
+    (Viewed row (get_or row 0 0) (get_or row 1 0) at)
+    (sym (value_of-is row a reads))
+    (record { reads = reads; clocks_are = refl; locations_are = sym w.1; edges_are = sym u.1 })
+
+pub accepted : (row : List ℕ) (v : view.Automaton) → v.row.now ≡ row → ReadPost row (Ok v)
+accepted row v same = record { cases = (same, (automaton_value v, views v)); one = one_automaton }

@@ -5,5 +5,6 @@ pub mod Statements
 pub mod Parts
 pub mod Values
 pub mod EdgeParts
+pub mod Viewed
 pub mod Views
 pub mod Reading

@@ -60,7 +60,7 @@ ConjunctionAt row cs rest None = ⊥
 ConjunctionAt row cs rest (Some c) =
     (c.0.words.now ≡ write_constraints cs) × (drop c.1 row ≡ rest) × (c.1 ≤ length row)
 
--- the part is the list of clocks, and behind it stands the rest
-abbrev pub ResetsAt : List ℕ → List ℕ → List ℕ → Option (Bor (List ℕ) × ℕ) → Type 0
-ResetsAt row xs rest None = ⊥
-ResetsAt row xs rest (Some c) = (c.0.now ≡ xs) × (drop c.1 row ≡ rest) × (c.1 ≤ length row)
+-- the part is these words, and behind it stands the rest
+abbrev pub PartAt : List ℕ → List ℕ → List ℕ → Option (Bor (List ℕ) × ℕ) → Type 0
+PartAt row ws rest None = ⊥
+PartAt row ws rest (Some c) = (c.0.now ≡ ws) × (drop c.1 row ≡ rest) × (c.1 ≤ length row)

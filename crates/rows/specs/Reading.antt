@@ -1,15 +1,22 @@
 -- What the functions that go over a row tell: where a part ends, or which rule the row breaks and at which word.
-use Rattle.std.specs.Prelude.{◌≡◌, ℕ, suc, ◌<◌, ◌≤◌, List, length, drop, Ok, Err, Result, slice_index}
+use Rattle.std.specs.Prelude.{◌≡◌, ℕ, zero, suc, ◌<◌, ◌≤◌, List, length, drop, Ok, Err, Result, slice_index}
 use Rattle.std.proofs.Math.Option.{some, none}
 use Rattle.automata.specs.Automata as automata
 use Rattle.automata.specs.Rows.{Reads}
 use Rattle.automata.specs.Statements.{OneAutomaton}
+use Rattle.rows.specs.declared.reader.Owner.{Owner}
+use Rattle.rows.specs.declared.reader.Owner.TheVariants as owner
 use Rattle.rows.specs.declared.refusals.Refusal.{Refusal}
 use Rattle.rows.specs.declared.refusals.Rule.{Rule}
 use Rattle.rows.specs.declared.refusals.Rule.TheVariants.{TooLong, Ends, Clocks, Locations, Clock, Relation, LowerBound, Bound, Location}
 use Rattle.rows.specs.declared.views.Automaton.{Automaton}
-use Rattle.rows.specs.Parse.{Outcome}
+use Rattle.rows.specs.Parse.{Outcome, upper_only, all_relations}
 use Rattle.rows.specs.Views.{Views}
+
+-- the relations of an invariant are the first two, those of a guard all four
+abbrev pub relations_of : Owner → ℕ
+relations_of owner.Location = upper_only
+relations_of owner.Edge = all_relations
 
 -- what is wrong at the word
 abbrev pub Wrong : List ℕ → Rule → ℕ → Type 0
@@ -27,6 +34,20 @@ Wrong row Location w = (w < length row) × (slice_index row 1 ≤ slice_index ro
 pub record Leads {A B : Type 0} (x : Outcome A) (y : Outcome B) : Type 0 where
   pub fails : x ≡ none → y ≡ none
   pub reads : (v : A) (rest : List ℕ) → x ≡ some (v, rest) → (u : B) × (y ≡ some (u, rest))
+
+-- calls in a row, each at the place where the one before ended
+abbrev pub Repeats : (ℕ → Result ℕ Refusal → Type 0) → ℕ → ℕ → ℕ → Type 0
+Repeats call zero from end = end ≡ from
+Repeats call (suc n) from end = (next : ℕ) × Repeats call n from next × call next (Ok end)
+
+-- so many calls each give an end, or one refuses
+abbrev pub RepeatCases : (ℕ → Result ℕ Refusal → Type 0) → ℕ → ℕ → Result ℕ Refusal → Type 0
+RepeatCases call count from (Ok end) = Repeats call count from end
+RepeatCases call count from (Err f) =
+    (n : ℕ) × (next : ℕ) × (n < count) × Repeats call n from next × call next (Err f)
+
+pub record Repeated (call : ℕ → Result ℕ Refusal → Type 0) (count from : ℕ) (r : Result ℕ Refusal) : Type 0 where
+  pub cases : RepeatCases call count from r
 
 -- one element more of a list that is read by its number of elements
 abbrev pub Step : {A : Type 0} → (ℕ → List ℕ → Outcome A) → List ℕ → ℕ → Result ℕ Refusal → Type 0

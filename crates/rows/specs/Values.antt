@@ -3,6 +3,7 @@ use Rattle.std.specs.Prelude.{◌≡◌, ℕ, List, [], ◌∷◌, Some, None, O
 use Rattle.automata.specs.Automata as automata
 use Rattle.rows.specs.declared.constraints.Constraint.{Constraint}
 use Rattle.rows.specs.declared.constraints.Conjunction.{Conjunction}
+use Rattle.rows.specs.declared.edges.Edge.{Edge}
 use Rattle.rows.specs.Parse.{constraint}
 use Rattle.rows.specs.Parts.{constraint_value}
 
@@ -15,6 +16,10 @@ constraints_value (c ∷ r ∷ b ∷ ws) = constraint c r b ∷ constraints_valu
 
 abbrev pub conjunction_value : Conjunction → List automata.Constraint
 conjunction_value c = constraints_value c.words.now
+
+abbrev pub edge_value : Edge → automata.Edge
+edge_value e =
+    record { source = e.source.0; target = e.target.0; guard = conjunction_value e.guard; resets = e.resets.now }
 
 -- the first of the constraints, and the others behind it
 abbrev pub NextConstraint : List automata.Constraint → Option Constraint → List automata.Constraint → Type 0

@@ -4,11 +4,12 @@ ghost use Rattle.std.specs.Iterator.{at_most};
 ghost use Rattle.automata.specs.Rows.{write_constraints};
 ghost use Rattle.automata.specs.Automata.{nth};
 ghost use Rattle.automata.specs.Automata as automata;
-ghost use Rattle.automata.specs.Rows.{code};
+ghost use Rattle.automata.specs.Rows.{code, upper};
 ghost use Rattle.rows.specs.Parse.{relation_of};
 ghost use Rattle.rows.specs.Parts.{relation_value, relation_text, RelationRead, relates, ConstraintIs, ConjunctionAt};
 ghost use Rattle.rows.specs.Values.{constraints_value, conjunction_value, NextConstraint};
 
+use crate::counted::part_at;
 use std::error::Error;
 use std::fmt;
 
@@ -82,6 +83,16 @@ impl fmt::Display for Relation {
 }
 
 impl Relation {
+    // Whether it bounds a clock from above.
+    pub fn bounds_above(self) -> bool
+        ensures { result ≡ upper (relation_value self) }
+    {
+        match self {
+            Relation::AtMost | Relation::Below => true,
+            Relation::AtLeast | Relation::Above => false,
+        }
+    }
+
     // Whether the value stands so to the bound.
     pub fn holds<T: Ord + Copy>(self, value: T, bound: T) -> bool
         ensures { result ≡ relates T.cmp self value bound }
@@ -123,14 +134,14 @@ pub fn decode_relation(word: u32) -> Relation
 
 impl<'a> Conjunction<'a> {
     pub fn len(&self) -> usize
-        ensures { (cs : List automata.Constraint) → self.now.words.now ≡ write_constraints cs → result ≡ length cs }
+        ensures { result ≡ length (conjunction_value self.now) }
     {
         self.words.len() / 3
     }
 
     // The constraint at a place, or none behind the last.
     pub fn get(&self, place: usize) -> Option<Constraint>
-        ensures { (cs : List automata.Constraint) → self.now.words.now ≡ write_constraints cs → ConstraintIs (nth cs place) result }
+        ensures { ConstraintIs (nth (conjunction_value self.now) place) result }
     {
         if place >= self.words.len() / 3 {
             return None;
@@ -187,18 +198,6 @@ pub fn conjunction_at(row: &[u32], at: usize) -> Option<(Conjunction<'_>, usize)
     ensures part { (cs : List automata.Constraint) (rest : List ℕ) → drop at row.now ≡ length cs ∷ (write_constraints cs ++ rest) → ConjunctionAt row.now cs rest result }
     ensures further { IfSome result (λ c. (at < c.1) × (c.1 ≤ length row.now)) }
 {
-    if at >= row.len() {
-        return None;
-    }
-    let count = row[at] as usize;
-    if count > (row.len() - at - 1) / 3 {
-        return None;
-    }
-    let end = at + 1 + 3 * count;
-    Some((
-        Conjunction {
-            words: &row[at + 1..end],
-        },
-        end,
-    ))
+    let (words, end) = part_at(row, at, 3)?;
+    Some((Conjunction { words }, end))
 }

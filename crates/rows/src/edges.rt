@@ -1,10 +1,11 @@
 // Edges, as parts of a row.
-ghost use Rattle.std.specs.Prelude.{◌≡◌, ℕ, ◌<◌, ◌≤◌, List, ◌∷◌, ◌++◌, length, drop, IfSome};
+ghost use Rattle.std.specs.Prelude.{◌≡◌, ℕ, ◌<◌, ◌≤◌, List, length, drop, IfSome};
 ghost use Rattle.automata.specs.Automata as automata;
-ghost use Rattle.rows.specs.Parts.{edge_words, ResetsAt};
+ghost use Rattle.rows.specs.Parts.{edge_words};
 ghost use Rattle.rows.specs.EdgeParts.{EdgeAt};
 
 use crate::constraints::{Conjunction, conjunction_at};
+use crate::counted::part_at;
 
 // The number of a location.
 #[derive(Clone, Copy, Debug, PartialEq, Eq)]
@@ -19,22 +20,6 @@ pub struct Edge<'a> {
     pub resets: &'a [u32],
 }
 
-// The clocks whose number stands at `at`, and the place behind them; none where the row ends before.
-fn resets_at(row: &[u32], at: usize) -> Option<(&[u32], usize)>
-    ensures part { (xs rest : List ℕ) → drop at row.now ≡ length xs ∷ (xs ++ rest) → ResetsAt row.now xs rest result }
-    ensures further { IfSome result (λ c. (at < c.1) × (c.1 ≤ length row.now)) }
-{
-    if at >= row.len() {
-        return None;
-    }
-    let count = row[at] as usize;
-    if count > row.len() - at - 1 {
-        return None;
-    }
-    let end = at + 1 + count;
-    Some((&row[at + 1..end], end))
-}
-
 // The edge that begins at `at`, and the place behind it; none where the row ends before.
 pub fn edge_at(row: &[u32], at: usize) -> Option<(Edge<'_>, usize)>
     ensures part { (e : automata.Edge) (rest : List ℕ) → drop at row.now ≡ edge_words e rest → EdgeAt row.now e rest result }
@@ -44,7 +29,7 @@ pub fn edge_at(row: &[u32], at: usize) -> Option<(Edge<'_>, usize)>
         return None;
     }
     let (guard, guard_end) = conjunction_at(row, at + 2)?;
-    let (resets, end) = resets_at(row, guard_end)?;
+    let (resets, end) = part_at(row, guard_end, 1)?;
     let edge = Edge {
         source: Location(row[at]),
         target: Location(row[at + 1]),

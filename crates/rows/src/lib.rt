@@ -3,6 +3,7 @@
 #![tactic(auto)]
 
 pub mod constraints;
+mod counted;
 pub mod edges;
 pub mod limits;
 pub mod reader;

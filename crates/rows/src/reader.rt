@@ -1,162 +1,162 @@
 // Reads a row: goes over its words once, and tells where its edges begin or which rule it breaks.
-ghost use Rattle.std.specs.Prelude.{◌≡◌, ℕ, suc, ◌+◌, ◌<◌, ◌≤◌, length, slice_index};
+ghost use Rattle.std.specs.Prelude.{◌≡◌, ℕ, suc, ◌+◌, ◌<◌, ◌≤◌, length, slice_index, nat_lt};
+ghost use Rattle.automata.specs.Rows.{code};
 ghost use Rattle.rows.specs.Parse.{parse_constraints, parse_conjunction, parse_invariants, parse_clocks, parse_resets, parse_edge, parse_edges};
-ghost use Rattle.rows.specs.Reading.{Step, Tells, TellsEnd, ReadPost};
+ghost use Rattle.rows.specs.Parts.{relation_value};
+ghost use Rattle.rows.specs.Reading.{relations_of, Repeated, Step, Tells, TellsEnd, ReadPost};
 ghost use Rattle.rows.specs.Statements.{RowsRound};
 
+use crate::constraints::Relation;
 use crate::limits::{MOST_CLOCKS, MOST_LOCATIONS};
 pub use crate::limits::{MOST_BOUND, MOST_WORDS};
 use crate::refusals::{Refusal, Rule};
 use crate::views::Automaton;
 
-// The relations of an invariant are the first two, those of a guard all four.
-const UPPER_ONLY: u32 = 2;
-
-const ALL_RELATIONS: u32 = 4;
-
-// The three words of a constraint: where they end.
-fn check_constraint(row: &[u32], at: usize, clocks: u32, relations: u32) -> Result<usize, Refusal>
-    requires { (clocks ≡ slice_index row.now 0) × (2 ≤ relations) × (relations ≤ 4) }
-    ensures { Step (parse_constraints clocks relations) row.now at result }
-{
-    if at > row.len() || row.len() - at < 3 {
-        return Err(Refusal {
-            rule: Rule::Ends,
-            word: row.len(),
-        });
-    }
-    if row[at] >= clocks {
-        return Err(Refusal {
-            rule: Rule::Clock,
-            word: at,
-        });
-    }
-    if row[at + 1] >= ALL_RELATIONS {
-        return Err(Refusal {
-            rule: Rule::Relation,
-            word: at + 1,
-        });
-    }
-    if row[at + 1] >= relations {
-        return Err(Refusal {
-            rule: Rule::LowerBound,
-            word: at + 1,
-        });
-    }
-    if row[at + 2] > MOST_BOUND {
-        return Err(Refusal {
-            rule: Rule::Bound,
-            word: at + 2,
-        });
-    }
-    Ok(at + 3)
+// Whose constraints are read.
+#[derive(Clone, Copy)]
+enum Owner {
+    Location,
+    Edge,
 }
 
-// A number of constraints, and these: where they end.
-fn check_conjunction(row: &[u32], at: usize, clocks: u32, relations: u32) -> Result<usize, Refusal>
-    requires { (clocks ≡ slice_index row.now 0) × (2 ≤ relations) × (relations ≤ 4) }
-    ensures { Tells (parse_conjunction clocks relations) row.now at result }
-{
-    if at >= row.len() {
-        return Err(Refusal {
-            rule: Rule::Ends,
-            word: row.len(),
-        });
+impl Owner {
+    // An invariant bounds clocks from above only.
+    fn takes(self, relation: Relation) -> bool
+        ensures { result ≡ nat_lt (code (relation_value relation)) (relations_of self) }
+    {
+        match self {
+            Owner::Location => relation.bounds_above(),
+            Owner::Edge => true,
+        }
     }
-    let mut next = at + 1;
-    for _ in 0..row[at] {
-        next = check_constraint(row, next, clocks, relations)?;
+}
+
+// Reads a number of parts from a place on, each where the one before ends: where the last ends.
+fn check_each<F: Fn(usize) -> Result<usize, Refusal>>(
+    count: u32,
+    from: usize,
+    check: F,
+) -> Result<usize, Refusal>
+    requires { F.IsAlwaysCallable check }
+    ensures { Repeated (F.post check) count from result }
+{
+    let mut next = from;
+    for _ in 0..count {
+        next = check(next)?;
     }
     Ok(next)
 }
 
-// The invariants of all locations, from the third word on: where they end.
-fn check_invariants(row: &[u32], clocks: u32, locations: u32) -> Result<usize, Refusal>
-    requires { (clocks ≡ slice_index row.now 0) × (0 < locations) × (2 ≤ length row.now) }
-    ensures { Tells (parse_invariants clocks locations) row.now 2 result }
-{
-    let mut next = 2;
-    for _ in 0..locations {
-        next = check_conjunction(row, next, clocks, UPPER_ONLY)?;
-    }
-    Ok(next)
+// A row, with the numbers of clocks and of locations that it begins with.
+#[derive(Clone, Copy)]
+struct Reader<'a> {
+    row: &'a [u32],
+    clocks: u32,
+    locations: u32,
+    ghost counts: { (clocks ≡ slice_index row.now 0) × (locations ≡ slice_index row.now 1) × (0 < locations) × (2 ≤ length row.now) },
 }
 
-// The number of a clock: where it ends.
-fn check_clock(row: &[u32], at: usize, clocks: u32) -> Result<usize, Refusal>
-    requires { clocks ≡ slice_index row.now 0 }
-    ensures { Step (parse_clocks clocks) row.now at result }
-{
-    if at >= row.len() {
-        return Err(Refusal {
-            rule: Rule::Ends,
-            word: row.len(),
-        });
+impl Reader<'_> {
+    // The three words of a constraint: where they end.
+    fn check_constraint(&self, at: usize, owner: Owner) -> Result<usize, Refusal>
+        ensures { Step (parse_constraints self.now.clocks (relations_of owner)) self.now.row.now at result }
+    {
+        let row = self.row;
+        if at > row.len() || row.len() - at < 3 {
+            return Err(Rule::Ends.at(row.len()));
+        }
+        if row[at] >= self.clocks {
+            return Err(Rule::Clock.at(at));
+        }
+        let Ok(relation) = Relation::try_from(row[at + 1]) else {
+            return Err(Rule::Relation.at(at + 1));
+        };
+        if !owner.takes(relation) {
+            return Err(Rule::LowerBound.at(at + 1));
+        }
+        if row[at + 2] > MOST_BOUND {
+            return Err(Rule::Bound.at(at + 2));
+        }
+        Ok(at + 3)
     }
-    if row[at] >= clocks {
-        return Err(Refusal {
-            rule: Rule::Clock,
-            word: at,
-        });
-    }
-    Ok(at + 1)
-}
 
-// A number of clocks that are reset, and these: where they end.
-fn check_resets(row: &[u32], at: usize, clocks: u32) -> Result<usize, Refusal>
-    requires { clocks ≡ slice_index row.now 0 }
-    ensures { Tells (parse_resets clocks) row.now at result }
-{
-    if at >= row.len() {
-        return Err(Refusal {
-            rule: Rule::Ends,
-            word: row.len(),
-        });
+    // A number of constraints, and these: where they end.
+    fn check_conjunction(&self, at: usize, owner: Owner) -> Result<usize, Refusal>
+        ensures { Tells (parse_conjunction self.now.clocks (relations_of owner)) self.now.row.now at result }
+    {
+        let row = self.row;
+        if at >= row.len() {
+            return Err(Rule::Ends.at(row.len()));
+        }
+        check_each(row[at], at + 1, |next| self.check_constraint(next, owner))
     }
-    let mut next = at + 1;
-    for _ in 0..row[at] {
-        next = check_clock(row, next, clocks)?;
-    }
-    Ok(next)
-}
 
-// An edge: where it ends.
-fn check_edge(row: &[u32], at: usize, clocks: u32, locations: u32) -> Result<usize, Refusal>
-    requires { (clocks ≡ slice_index row.now 0) × (locations ≡ slice_index row.now 1) }
-    ensures { Tells (parse_edge clocks locations) row.now at result }
-{
-    if at > row.len() || row.len() - at < 2 {
-        return Err(Refusal {
-            rule: Rule::Ends,
-            word: row.len(),
-        });
+    // The invariants of all locations, from the third word on: where they end.
+    fn check_invariants(&self) -> Result<usize, Refusal>
+        ensures { Tells (parse_invariants self.now.clocks self.now.locations) self.now.row.now 2 result }
+    {
+        check_each(
+            self.locations,
+            2,
+            |next| self.check_conjunction(next, Owner::Location),
+        )
     }
-    if row[at] >= locations {
-        return Err(Refusal {
-            rule: Rule::Location,
-            word: at,
-        });
-    }
-    if row[at + 1] >= locations {
-        return Err(Refusal {
-            rule: Rule::Location,
-            word: at + 1,
-        });
-    }
-    let guard_end = check_conjunction(row, at + 2, clocks, ALL_RELATIONS)?;
-    check_resets(row, guard_end, clocks)
-}
 
-// Edges to the end of the row.
-fn check_edges(row: &[u32], at: usize, clocks: u32, locations: u32) -> Result<usize, Refusal>
-    requires { (clocks ≡ slice_index row.now 0) × (locations ≡ slice_index row.now 1) × (at ≤ length row.now) }
-    ensures { TellsEnd (λ ws. parse_edges clocks locations (length ws) ws) row.now at result }
-{
-    let mut next = at;
-    while next < row.len() {
-        next = check_edge(row, next, clocks, locations)?;
+    // The number of a clock: where it ends.
+    fn check_clock(&self, at: usize) -> Result<usize, Refusal>
+        ensures { Step (parse_clocks self.now.clocks) self.now.row.now at result }
+    {
+        let row = self.row;
+        if at >= row.len() {
+            return Err(Rule::Ends.at(row.len()));
+        }
+        if row[at] >= self.clocks {
+            return Err(Rule::Clock.at(at));
+        }
+        Ok(at + 1)
     }
-    Ok(next)
+
+    // A number of clocks that are reset, and these: where they end.
+    fn check_resets(&self, at: usize) -> Result<usize, Refusal>
+        ensures { Tells (parse_resets self.now.clocks) self.now.row.now at result }
+    {
+        let row = self.row;
+        if at >= row.len() {
+            return Err(Rule::Ends.at(row.len()));
+        }
+        check_each(row[at], at + 1, |next| self.check_clock(next))
+    }
+
+    // An edge: where it ends.
+    fn check_edge(&self, at: usize) -> Result<usize, Refusal>
+        ensures { Tells (parse_edge self.now.clocks self.now.locations) self.now.row.now at result }
+    {
+        let row = self.row;
+        if at > row.len() || row.len() - at < 2 {
+            return Err(Rule::Ends.at(row.len()));
+        }
+        if row[at] >= self.locations {
+            return Err(Rule::Location.at(at));
+        }
+        if row[at + 1] >= self.locations {
+            return Err(Rule::Location.at(at + 1));
+        }
+        let guard_end = self.check_conjunction(at + 2, Owner::Edge)?;
+        self.check_resets(guard_end)
+    }
+
+    // Edges to the end of the row.
+    fn check_edges(&self, at: usize) -> Result<usize, Refusal>
+        requires { at ≤ length self.now.row.now }
+        ensures { TellsEnd (λ ws. parse_edges self.now.clocks self.now.locations (length ws) ws) self.now.row.now at result }
+    {
+        let row = self.row;
+        let mut next = at;
+        while next < row.len() {
+            next = self.check_edge(next)?;
+        }
+        Ok(next)
+    }
 }
 
 // Accepts exactly the rows that are the writing of an automaton, and no row is the writing of two.
@@ -165,32 +165,25 @@ pub fn read(row: &[u32]) -> Result<Automaton<'_>, Refusal>
     ensures round { RowsRound }
 {
     if row.len() > MOST_WORDS {
-        return Err(Refusal {
-            rule: Rule::TooLong,
-            word: MOST_WORDS,
-        });
+        return Err(Rule::TooLong.at(MOST_WORDS));
     }
     if row.len() < 2 {
-        return Err(Refusal {
-            rule: Rule::Ends,
-            word: row.len(),
-        });
+        return Err(Rule::Ends.at(row.len()));
     }
     let clocks = row[0];
     if clocks < 1 || clocks > MOST_CLOCKS {
-        return Err(Refusal {
-            rule: Rule::Clocks,
-            word: 0,
-        });
+        return Err(Rule::Clocks.at(0));
     }
     let locations = row[1];
     if locations < 1 || locations > MOST_LOCATIONS {
-        return Err(Refusal {
-            rule: Rule::Locations,
-            word: 1,
-        });
+        return Err(Rule::Locations.at(1));
     }
-    let edges = check_invariants(row, clocks, locations)?;
-    check_edges(row, edges, clocks, locations)?;
+    let reader = Reader {
+        row,
+        clocks,
+        locations,
+    };
+    let edges = reader.check_invariants()?;
+    reader.check_edges(edges)?;
     Ok(Automaton::new(row, clocks, locations, edges))
 }

@@ -1,5 +1,5 @@
 // Why a row is refused, and at which word.
-ghost use Rattle.std.specs.Prelude.{◌++◌, Some, codes, decimal};
+ghost use Rattle.std.specs.Prelude.{◌≡◌, ◌++◌, Some, codes, decimal};
 ghost use Rattle.rows.specs.Refusals.{rule_text};
 
 use crate::limits::{MOST_BOUND, MOST_CLOCKS, MOST_LOCATIONS, MOST_WORDS};
@@ -33,6 +33,15 @@ pub enum Rule {
 pub struct Refusal {
     pub rule: Rule,
     pub word: usize,
+}
+
+impl Rule {
+    // That the rule is broken at a word.
+    pub fn at(self, word: usize) -> Refusal
+        ensures { result ≡ record { rule = self; word = word } }
+    {
+        Refusal { rule: self, word }
+    }
 }
 
 impl fmt::Display for Rule {

@@ -2,7 +2,7 @@
 ghost use Rattle.std.specs.Prelude.{◌≡◌, ℕ, ◌-◌, List, length};
 ghost use Rattle.automata.specs.Automata as automata;
 ghost use Rattle.automata.specs.Automata.{nth};
-ghost use Rattle.rows.specs.Views.{Made, Views, InvariantIs, EdgesAre, NextEdge};
+ghost use Rattle.rows.specs.Viewed.{value_of, Viewed};
 ghost use Rattle.std.specs.Iterator.{at_most};
 
 use crate::constraints::{Conjunction, conjunction_at};
@@ -15,6 +15,15 @@ pub struct Automaton<'a> {
     locations: u32,
     // the word at which the edges begin
     edges: usize,
+    ghost viewed: { Viewed row.now clocks locations edges (value_of row.now) },
+}
+
+// The invariants from a word of the row on, so many.
+#[derive(Clone, Copy)]
+pub struct Invariants<'a> {
+    row: &'a [u32],
+    at: usize,
+    left: u32,
 }
 
 // The edges from a word of the row on.
@@ -25,7 +34,10 @@ pub struct Edges<'a> {
 }
 
 impl<'a> Automaton<'a> {
+    ghost use Rattle.rows.specs.Views.{Made, automaton_value, InvariantIs, InvariantsAre, EdgesAre};
+
     pub(crate) fn new(row: &'a [u32], clocks: u32, locations: u32, edges: usize) -> Self
+        requires { Viewed row.now clocks locations edges (value_of row.now) }
         ensures { Made row.now clocks locations edges result }
     {
         Automaton {
@@ -64,23 +76,24 @@ impl<'a> Automaton<'a> {
 
     // The invariant of a location, or none where there is no such location.
     pub fn invariant(&self, location: Location) -> Option<Conjunction<'a>>
-        ensures { (a : automata.Automaton) → Views self.now a → InvariantIs (nth a.invariants location.0) result }
+        ensures { InvariantIs (nth (automaton_value self.now).invariants location.0) result }
     {
-        if location.0 >= self.locations {
-            return None;
+        self.invariants().nth(location.0 as usize)
+    }
+
+    // The invariants of all locations, in their order.
+    pub fn invariants(&self) -> Invariants<'a>
+        ensures { InvariantsAre (automaton_value self.now).invariants result }
+    {
+        Invariants {
+            row: self.row,
+            at: 2,
+            left: self.locations,
         }
-        let row = self.row;
-        let mut at = 2;
-        for _ in 0..location.0 {
-            let (_, end) = conjunction_at(row, at)?;
-            at = end;
-        }
-        let (conjunction, _) = conjunction_at(row, at)?;
-        Some(conjunction)
     }
 
     pub fn edges(&self) -> Edges<'a>
-        ensures { (a : automata.Automaton) → Views self.now a → EdgesAre a.edges result }
+        ensures { EdgesAre (automaton_value self.now).edges result }
     {
         Edges {
             row: self.row,
@@ -89,7 +102,27 @@ impl<'a> Automaton<'a> {
     }
 }
 
+impl<'a> Iterator for Invariants<'a> {
+    ghost use Rattle.rows.specs.Views.{InvariantsAre, NextInvariant};
+
+    type Item = Conjunction<'a>;
+
+    ghost next_gives = { λ s r t. ((css : List (List automata.Constraint)) → InvariantsAre css s → NextInvariant css r t) };
+
+    ghost remaining = { λ s. at_most s.left };
+
+    fn next(&mut self) -> Option<Conjunction<'a>> {
+        let left = self.left.checked_sub(1)?;
+        let (conjunction, behind) = conjunction_at(self.row, self.at)?;
+        self.at = behind;
+        self.left = left;
+        Some(conjunction)
+    }
+}
+
 impl<'a> Iterator for Edges<'a> {
+    ghost use Rattle.rows.specs.Views.{EdgesAre, NextEdge};
+
     type Item = Edge<'a>;
 
     ghost next_gives = { λ s r t. ((es : List automata.Edge) → EdgesAre es s → NextEdge es r t) };

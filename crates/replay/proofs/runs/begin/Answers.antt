@@ -1,6 +1,8 @@
 -- The start is allowed if its checks hold over 1.
 use Rattle.std.proofs.Common.{replicate, refl}
 use lib.ListN.{get_or-replicate}
+use Rattle.rows.specs.Views.{automaton_value}
+use Rattle.rows.proofs.Values.{views}
 use Rattle.replay.specs.declared.moments.Moment.{Moment}
 use Rattle.replay.specs.Outcomes.{AtStart}
 use Rattle.replay.proofs.InRange.{reads_in_range}
@@ -15,10 +17,10 @@ at_the_start = record { location = refl; clocks = λ i h. get_or-replicate 8 i 0
 
 pub returns-then-not-allowed : goal.returns-then-not-allowed
 returns-then-not-allowed c =
-    λ a views.
-    (refl, start_fails a (reads_in_range views.reads) start at_the_start (c.if-not-allowed.ensures a views))
+    let range = reads_in_range (views c.args.automaton.now).reads in
+    (refl, start_fails (automaton_value c.args.automaton.now) range start at_the_start c.if-not-allowed.ensures)
 
 pub returns : goal.returns
 returns c =
-    λ a views.
-    (at_the_start, start_come a (reads_in_range views.reads) start at_the_start (c.if-not-allowed.ensures a views))
+    let range = reads_in_range (views c.args.automaton.now).reads in
+    (at_the_start, start_come (automaton_value c.args.automaton.now) range start at_the_start c.if-not-allowed.ensures)

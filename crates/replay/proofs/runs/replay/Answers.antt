@@ -5,6 +5,8 @@ use Rattle.std.proofs.lemmas.List.{take_more}
 use Rattle.std.proofs.lemmas.Result.{err_from_is_err_and}
 use Rattle.automata.specs.Automata.{Automaton}
 use Rattle.automata.specs.Runs.{start}
+use Rattle.rows.specs.Views.{automaton_value}
+use Rattle.rows.proofs.Values.{views}
 use Rattle.replay.specs.declared.moments.Move.{Move}
 use Rattle.replay.specs.declared.moments.Move.TheVariants.{Wait}
 use Rattle.replay.specs.declared.moments.Moment.{Moment}
@@ -52,40 +54,41 @@ all_made a d ms i m pos h f =
 pub returns-in_err-moment : goal.returns-in_err-moment
 returns-in_err-moment c =
     let p = err_from_is_err_and c.from_residual-in_err-moment.result c.from_residual-in_err-moment.ensures.1 in
+    let a = automaton_value c.args.automaton.now in
+    let (fault, none) = c.in_err-moment.ensures in
     rw
     (p.1, p.2)
-    (λ a views.
-    let (fault, none) = c.in_err-moment.ensures a views in
-    subst
+    (subst
     (λ (f : Fault). Refused a c.args.denominator c.args.moves.now f)
     (sym fault)
     (λ s run. none (start_state a) (start run.start)))
 
 pub loop-next-init : goal.loop-next-init
 loop-next-init c =
-    λ a views.
-    let (at, come) = c.in_ok-moment.ensures a (rw c.in_ok-player.ensures.0 at views) in
-    followed_start a c.in_ok-player.player.denominator c.in_ok-moment.moment (reads_in_range views.reads).clocks at (come c.in_ok-player.player.denominator)
+    let player = c.in_ok-player.player in
+    let (at, come) = rw (← c.in_ok-player.ensures.0) at c.in_ok-moment.ensures in
+    followed_start (automaton_value player.automaton) player.denominator c.in_ok-moment.moment
+    (reads_in_range (views player.automaton).reads).clocks at (come player.denominator)
 
 pub returns-in_err-moment-2 : goal.returns-in_err-moment-2
 returns-in_err-moment-2 c =
     let p = err_from_is_err_and c.from_residual-in_err-moment-2.result c.from_residual-in_err-moment-2.ensures.1 in
+    let player = c.in_ok-player.player in
     rw
     (p.1, p.2, ← c.in_ok-player.ensures.0, ← c.in_ok-player.ensures.1)
-    (λ a views.
-    none_more a c.in_ok-player.player.denominator c.args.moves.now c.loop-next.next-index c.loop-next.moment
-    c.in_err-moment-2.field-0.0 c.loop-next-test.true (c.loop-next.invariant a views) (c.in_err-moment-2.ensures a views))
+    (none_more (automaton_value player.automaton) player.denominator c.args.moves.now c.loop-next.next-index c.loop-next.moment
+    c.in_err-moment-2.field-0.0 c.loop-next-test.true c.loop-next.invariant c.in_err-moment-2.ensures)
 
 pub loop-next-preserved : goal.loop-next-preserved
 loop-next-preserved c =
-    λ a views.
-    one_more a c.in_ok-player.player.denominator c.args.moves.now c.loop-next.next-index c.loop-next.moment
-    c.in_ok-moment-2.moment c.loop-next-test.true (c.loop-next.invariant a views) (c.in_ok-moment-2.ensures a views)
+    let player = c.in_ok-player.player in
+    one_more (automaton_value player.automaton) player.denominator c.args.moves.now c.loop-next.next-index c.loop-next.moment
+    c.in_ok-moment-2.moment c.loop-next-test.true c.loop-next.invariant c.in_ok-moment-2.ensures
 
 pub returns : goal.returns
 returns c =
+    let player = c.in_ok-player.player in
     rw
     (← c.in_ok-player.ensures.0, ← c.in_ok-player.ensures.1)
-    (λ a views.
-    all_made a c.in_ok-player.player.denominator c.args.moves.now c.loop-next.next-index c.loop-next.moment
-    c.in_ok-player.player.positive c.loop-next-test.false (c.loop-next.invariant a views))
+    (all_made (automaton_value player.automaton) player.denominator c.args.moves.now c.loop-next.next-index c.loop-next.moment
+    player.positive c.loop-next-test.false c.loop-next.invariant)

@@ -51,7 +51,7 @@ returns-in_err-resets c =
       part =
           λ e rest h.
           let guard = c.in_ok-guard.ensures.part e.guard (afterGuard e rest) (ends c.args.row.now c.args.at e rest h).2 in
-          c.in_err-resets.ensures.part e.resets rest guard.1;
+          c.in_err-resets.ensures.part (length e.resets) e.resets rest guard.1 (omega arith);
       further = tt;
     })
 
@@ -62,7 +62,7 @@ returns c =
           λ e rest h.
           let two = ends c.args.row.now c.args.at e rest h in
           let guard = c.in_ok-guard.ensures.part e.guard (afterGuard e rest) two.2 in
-          let resets = c.in_ok-resets.ensures.part e.resets rest guard.1 in (
+          let resets = c.in_ok-resets.ensures.part (length e.resets) e.resets rest guard.1 (omega arith) in (
             record { source = two.0; target = two.1; guard = guard.0; resets = resets.0 },
             resets.1,
             resets.2,

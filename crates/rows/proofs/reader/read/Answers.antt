@@ -2,7 +2,7 @@
 use Rattle.std.proofs.Common.{◌<◌, ◌≤◌, length, get_or, refl, arith}
 use Rattle.std.proofs.lemmas.Result.{err_from_is_err_and}
 use Rattle.rows.specs.declared.refusals.Rule.TheVariants.{TooLong, Ends, Clocks, Locations}
-use Rattle.rows.proofs.Whole.{refused, accepted, parse-short, parse-long, parse-clocks, parse-locations, parse-invariants, parse-edges}
+use Rattle.rows.proofs.Whole.{refused, viewed, accepted, parse-short, parse-long, parse-clocks, parse-locations, parse-invariants, parse-edges}
 use Rattle.rows.proofs.Round.{rows_round}
 use Rattle.rows.proofs.reader.read.Goals as goal
 use Rattle.rows.proofs.reader.read.Goals.{then-clocks-lt1-via-then-clocks-lt1, then-clocks-lt1-via-else-clocks-lt1+then-clocks-gt-MOST_CLOCKS, then-locations-lt1-via-then-locations-lt1, then-locations-lt1-via-else-locations-lt1+then-locations-gt-MOST_LOCATIONS}
@@ -11,7 +11,7 @@ pub returns-then-row-gt-MOST_WORDS : goal.returns-then-row-gt-MOST_WORDS
 returns-then-row-gt-MOST_WORDS c =
     record {
       post =
-          refused c.args.row.now (record { rule = TooLong; word = 16384 }) (parse-long c.args.row.now c.if-row-gt-MOST_WORDS.true) (c.if-row-gt-MOST_WORDS.true, refl);
+          rw c.at.ensures (refused c.args.row.now (record { rule = TooLong; word = 16384 }) (parse-long c.args.row.now c.if-row-gt-MOST_WORDS.true) (c.if-row-gt-MOST_WORDS.true, refl));
       round = rows_round;
     }
 
@@ -19,7 +19,7 @@ pub returns-then-row-lt2 : goal.returns-then-row-lt2
 returns-then-row-lt2 c =
     record {
       post =
-          refused c.args.row.now (record { rule = Ends; word = length c.args.row.now }) (parse-short c.args.row.now c.if-row-lt2.true) refl;
+          rw c.at-then-row-lt2.ensures (refused c.args.row.now (record { rule = Ends; word = length c.args.row.now }) (parse-short c.args.row.now c.if-row-lt2.true) refl);
       round = rows_round;
     }
 
@@ -32,7 +32,7 @@ returns-then-clocks-lt1 c =
             | then-clocks-lt1-via-then-clocks-lt1 w ↦ λ h. omega (arith, w.if-clocks-lt1.true)
             | then-clocks-lt1-via-else-clocks-lt1+then-clocks-gt-MOST_CLOCKS w ↦ λ h. w.if-clocks-gt-MOST_CLOCKS.true
           ] in
-          refused c.args.row.now (record { rule = Clocks; word = 0 }) (parse-clocks c.args.row.now out) (refl, out);
+          rw c.at-then-clocks-lt1.ensures (refused c.args.row.now (record { rule = Clocks; word = 0 }) (parse-clocks c.args.row.now out) (refl, out));
       round = rows_round;
     }
 
@@ -45,7 +45,7 @@ returns-then-locations-lt1 c =
             | then-locations-lt1-via-then-locations-lt1 w ↦ λ h. omega (arith, w.if-locations-lt1.true)
             | then-locations-lt1-via-else-locations-lt1+then-locations-gt-MOST_LOCATIONS w ↦ λ h. w.if-locations-gt-MOST_LOCATIONS.true
           ] in
-          refused c.args.row.now (record { rule = Locations; word = 1 }) (parse-locations c.args.row.now out) (refl, out);
+          rw c.at-then-locations-lt1.ensures (refused c.args.row.now (record { rule = Locations; word = 1 }) (parse-locations c.args.row.now out) (refl, out));
       round = rows_round;
     }
 
@@ -72,12 +72,11 @@ returns-in_err-check_edges c =
       round = rows_round;
     }
 
+pub new-requires : goal.new-requires
+new-requires c =
+    let e = c.in_ok-edges.ensures in
+    let f = c.in_ok-check_edges.ensures in
+    viewed c.args.row.now e.2.0 c.in_ok-edges.edges f.0 f.1 c.if-row-lt2.false c.if-row-gt-MOST_WORDS.false c.if-clocks-lt1.false c.if-clocks-gt-MOST_CLOCKS.false c.if-locations-lt1.false c.if-locations-gt-MOST_LOCATIONS.false e.2.1 f.2
+
 pub returns : goal.returns
-returns c =
-    record {
-      post =
-          let e = c.in_ok-edges.ensures in
-          let f = c.in_ok-check_edges.ensures in
-          accepted c.args.row.now c.new.result e.2.0 c.in_ok-edges.edges f.0 f.1 c.if-row-lt2.false c.if-row-gt-MOST_WORDS.false c.if-clocks-lt1.false c.if-clocks-gt-MOST_CLOCKS.false c.if-locations-lt1.false c.if-locations-gt-MOST_LOCATIONS.false e.2.1 f.2 c.new.ensures;
-      round = rows_round;
-    }
+returns c = record { post = accepted c.args.row.now c.new.result c.new.ensures.row_is; round = rows_round }

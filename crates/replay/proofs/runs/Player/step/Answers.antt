@@ -4,6 +4,8 @@ use Rattle.automata.specs.Automata as automata
 use Rattle.regions.specs.Moves.{among}
 use Rattle.rows.specs.declared.edges.Edge.{Edge}
 use Rattle.rows.specs.EdgeParts.{EdgeIs}
+use Rattle.rows.specs.Views.{automaton_value}
+use Rattle.rows.proofs.Values.{views, constraints_value-is}
 use Rattle.replay.specs.declared.moments.Moment.{Moment}
 use Rattle.replay.specs.declared.moments.Move.TheVariants.{Step}
 use Rattle.replay.specs.declared.moments.Fault.TheVariants.{GuardFails, InvariantFails}
@@ -12,7 +14,6 @@ use Rattle.replay.specs.Checks.{HoldsParts}
 use Rattle.replay.specs.Changes.{Taken, EdgeNumber}
 use Rattle.replay.specs.Outcomes.{Advanced, StepFails}
 use Rattle.replay.proofs.InRange.{InRange, reads_in_range}
-use Rattle.replay.proofs.Constraints.{written_as}
 use Rattle.replay.proofs.Moving.{guard_fails, target_fails, step_advances}
 use Rattle.replay.proofs.runs.Player.step.Goals as goal
 
@@ -64,26 +65,25 @@ module _
 
 pub returns-then-not-holds : goal.returns-then-not-holds
 returns-then-not-holds c =
-    λ a views.
-    let found = rw c.in_ok-edge.ensures.ok_part at (c.numbered_edge.ensures a views) in
-    guard-fault a (reads_in_range views.reads) c.args.self.now.denominator c.args.self.now.positive c.args.number c.in_ok-edge.edge
-    c.args.moment.now found
-    (rw (written_as c.in_ok-edge.edge.guard.words.now found.0.guard found.2.guard) at c.if-not-holds.ensures)
+    let player = c.args.self.now in
+    let found = rw c.in_ok-edge.ensures.ok_part at c.numbered_edge.ensures in
+    guard-fault (automaton_value player.automaton) (reads_in_range (views player.automaton).reads) player.denominator player.positive
+    c.args.number c.in_ok-edge.edge c.args.moment.now found
+    (rw (constraints_value-is c.in_ok-edge.edge.guard.words.now found.0.guard found.2.guard) at c.if-not-holds.ensures)
 
 pub returns-then-not-is_allowed : goal.returns-then-not-is_allowed
 returns-then-not-is_allowed c =
-    λ a views.
-    let found = rw c.in_ok-edge.ensures.ok_part at (c.numbered_edge.ensures a views) in
-    target-fault a (reads_in_range views.reads) c.args.self.now.denominator c.args.self.now.positive c.args.number c.in_ok-edge.edge
-    c.args.moment.now found c.with_resets.result c.with_resets.ensures
-    (c.if-not-is_allowed.ensures a views)
+    let player = c.args.self.now in
+    let found = rw c.in_ok-edge.ensures.ok_part at c.numbered_edge.ensures in
+    target-fault (automaton_value player.automaton) (reads_in_range (views player.automaton).reads) player.denominator player.positive
+    c.args.number c.in_ok-edge.edge c.args.moment.now found c.with_resets.result c.with_resets.ensures c.if-not-is_allowed.ensures
 
 pub returns : goal.returns
 returns c =
-    λ a views.
-    let found = rw c.in_ok-edge.ensures.ok_part at (c.numbered_edge.ensures a views) in
-    edge-taken a (reads_in_range views.reads) c.args.self.now.denominator c.args.self.now.positive c.args.number c.in_ok-edge.edge
-    c.args.moment.now found c.with_resets.result c.with_resets.ensures
+    let player = c.args.self.now in
+    let found = rw c.in_ok-edge.ensures.ok_part at c.numbered_edge.ensures in
+    edge-taken (automaton_value player.automaton) (reads_in_range (views player.automaton).reads) player.denominator player.positive
+    c.args.number c.in_ok-edge.edge c.args.moment.now found c.with_resets.result c.with_resets.ensures
     (search rules)
-    (rw (written_as c.in_ok-edge.edge.guard.words.now found.0.guard found.2.guard) at c.if-not-holds.ensures)
-    (c.if-not-is_allowed.ensures a views)
+    (rw (constraints_value-is c.in_ok-edge.edge.guard.words.now found.0.guard found.2.guard) at c.if-not-holds.ensures)
+    c.if-not-is_allowed.ensures

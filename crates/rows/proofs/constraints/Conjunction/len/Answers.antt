@@ -1,7 +1,7 @@
 -- Three words for each constraint.
-use Rattle.std.proofs.Common.{length, ap, ◌∙◌, arith}
-use Rattle.rows.proofs.Parts.{length-constraints}
+use Rattle.std.proofs.Common.{arith}
+use Rattle.rows.proofs.Values.{length-constraints_value}
 use Rattle.rows.proofs.constraints.Conjunction.len.Goals as goal
 
 pub returns : goal.returns
-returns c = λ cs e. omega (arith, ap length e ∙ length-constraints cs)
+returns c = omega (arith, length-constraints_value c.args.self.now.words.now)
