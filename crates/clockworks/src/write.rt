@@ -5,7 +5,7 @@ ghost use Rattle.automata.specs.Rows.{Reads, upper, fine_constraint, fine_invari
 ghost use Rattle.rows.specs.Parts.{relation_value, constraint_value};
 ghost use Rattle.clockworks.specs.Meaning.{invariant_of, edge, automaton, test_words, position_words, step_words, all_upper, Wrote};
 
-use crate::parts::{Clockwork, Position, Relation, Step, Test};
+use crate::parts::{Clockwork, Position, Step, Test};
 use rows::constraints::UnknownRelation;
 use rows::limits::{LOCATIONS, MOST_BOUND, MOST_CLOCKS, MOST_WORDS};
 use std::alloc::{AllocError, AllocFailed, Global};
@@ -122,16 +122,10 @@ impl Writer {
     }
 }
 
-fn bounds_above(relation: Relation) -> bool
-    ensures { result ≡ upper (relation_value relation) }
-{
-    matches!(relation, Relation::AtMost | Relation::Below)
-}
-
 fn all_bound_above(tests: &[Test]) -> bool
     ensures { result ≡ all_upper tests.now }
 {
-    tests.iter().all(|test| bounds_above(test.relation))
+    tests.iter().all(|test| test.relation.bounds_above())
 }
 
 impl Part for u32 {

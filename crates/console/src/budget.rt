@@ -4,6 +4,7 @@ ghost use Rattle.search.specs.Answering.{needed};
 ghost use Rattle.console.specs.Budget.{Suffices, KindsFit, WordsRefused};
 
 use crate::messages::Problem;
+use search::explores::{WORDS, WORDS_FOR_A_KIND, WORDS_FOR_A_WORD};
 use std::alloc::Global;
 
 pub const ALL_BYTES: usize = 4 * 1024 * 1024;
@@ -17,13 +18,6 @@ const BYTES_OF_A_WORD: usize = 4;
 
 // The words that are lent to the search have the rest.
 pub const WORK_WORDS: usize = (ALL_BYTES - OTHER_BYTES) / BYTES_OF_A_WORD;
-
-// What the search asks for: so many words for any row, for each word of the row, and for each kind of states.
-const WORDS: usize = 65_536;
-
-const WORDS_FOR_A_WORD: usize = 8;
-
-const WORDS_FOR_A_KIND: usize = 256;
 
 // The greatest number of kinds that the work words suffice for, with a row of so many words: 0 where they suffice for none.
 pub fn kinds_that_fit(row: usize) -> u32

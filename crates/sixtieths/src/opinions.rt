@@ -5,23 +5,16 @@ use crate::trails::{Astray, follow, moves_to};
 use crate::visits::{Arrival, Fault, Visits};
 use crate::ways::find_ways;
 use clocks::answers::{Asked, look_up};
+use rows::limits::MOST_WORDS;
 use rows::views::Automaton;
-use search::explores::explore;
+use search::explores::{WORDS, WORDS_FOR_A_KIND, WORDS_FOR_A_WORD, explore};
 use std::alloc::Global;
 
 // As many kinds of states are allowed, which is more than any automaton has that is asked about here.
 pub const KINDS: u32 = 16_384;
 
-// The words that `explore` asks for: as many for any row, for a word of the row, and for a kind. They stand here again, since the
-// search keeps them to itself, and what it is lent shall not depend on it.
-const WORDS: usize = 65_536;
-
-const WORDS_FOR_A_WORD: usize = 8;
-
-const WORDS_FOR_A_KIND: usize = 256;
-
-// Words for rows of up to 16,384 words.
-pub const WORK: usize = WORDS + WORDS_FOR_A_WORD * 16_384 + WORDS_FOR_A_KIND * KINDS as usize;
+// Words for rows of any length.
+pub const WORK: usize = WORDS + WORDS_FOR_A_WORD * MOST_WORDS + WORDS_FOR_A_KIND * KINDS as usize;
 
 // The first time on the grid, in sixtieths, and what came of the run to it.
 #[derive(Clone, Copy)]

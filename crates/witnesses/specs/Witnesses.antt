@@ -3,7 +3,7 @@ use Rattle.std.specs.Prelude.{◌≡◌, ℕ, List, Some, None, Option}
 use Rattle.automata.specs.Automata as automata
 use Rattle.automata.specs.Statements as theory
 use Rattle.rows.specs.declared.views.Automaton.{Automaton}
-use Rattle.rows.specs.Views.{Views}
+use Rattle.rows.specs.Views.{automaton_value}
 use Rattle.cells.specs.Meaning.{region_value}
 use Rattle.search.specs.declared.answers.Answer.{Answer}
 use Rattle.search.specs.declared.answers.Answer.TheVariants.{At, After, Never}
@@ -35,5 +35,5 @@ abbrev pub WitnessIs : Automaton → Table → ℕ → ℕ → Option Witness �
 WitnessIs v t l part None =
     (row : List ℕ) (kinds : ℕ) (a : automata.Automaton) → TableIs row kinds t a → theory.Never a l
 WitnessIs v t l part (Some w) =
-    ((a : automata.Automaton) → Views v a → Realised a l w.arrival w.run)
+    Realised (automaton_value v) l w.arrival w.run
     × ((row : List ℕ) (kinds : ℕ) (a : automata.Automaton) → TableIs row kinds t a → ToldBy t l part a w)
