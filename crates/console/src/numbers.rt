@@ -7,7 +7,7 @@ ghost use Rattle.console.specs.declared.numbers.Mistake.TheVariants.{Memory};
 ghost use Rattle.console.specs.Rows.{blank as isBlankByte, FirstBlank, NextWord, RowIs, RowRefused, numbers_text};
 
 use crate::messages::Problem;
-use rows::reader::MOST_WORDS;
+use rows::limits::MOST_WORDS;
 use std::alloc::{AllocError, AllocFailed, Global};
 
 // Why a text is no row of numbers. Words are counted from 0.

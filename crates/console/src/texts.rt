@@ -1,17 +1,17 @@
 // A clockwork's text, as a drawing or as a row of numbers, and why it is refused.
 ghost use Rattle.automata.specs.Automata as automata;
 ghost use Rattle.automata.specs.Rows.{Reads};
-ghost use Rattle.rows.specs.Views.{Views};
-ghost use Rattle.std.specs.Prelude.{◌≡◌, IfOk, string_bytes};
+ghost use Rattle.std.specs.Prelude.{◌≡◌, IfOk, string_bytes, MatchResult};
 ghost use Rattle.drawing.specs.Drawn.{DrawnAs};
 
 use crate::messages::{Expected, Found, Problem};
 use crate::numbers;
 use crate::numbers::Mistake;
+use clockworks::write::Unfit;
 use drawing::Drawing;
 use drawing::errors::Place;
+use rows::limits::MOST_WORDS;
 use rows::reader;
-use rows::reader::MOST_WORDS;
 use rows::refusals::Rule;
 use rows::views::Automaton;
 use std::alloc::{AllocError, Global};
@@ -99,15 +99,14 @@ fn read_row(heap: Global, bytes: &[u8]) -> Result<Drawing, Problem>
     })
 }
 
-// The clockwork of a row.
-pub fn view(row: &[u32]) -> Automaton<'_>
-    requires { (a : automata.Automaton) × Reads row.now a }
-    ensures { (result.row.now ≡ row.now) × ((a : automata.Automaton) × Views result a) }
+// The clockwork of a row, if it is one's. What `read` gives always is.
+pub fn view(row: &[u32]) -> Result<Automaton<'_>, Problem>
+    ensures { MatchResult result (λ view. view.row.now ≡ row.now) (λ _. (a : automata.Automaton) → Reads row.now a → ⊥) }
 {
     let Ok(automaton) = reader::read(row) else {
-        unreachable!()
+        return Err(Problem::Unfit(Unfit::Other));
     };
-    automaton
+    Ok(automaton)
 }
 
 // The row of the clockwork that a text is of, with the names of its clocks and positions.

@@ -18,7 +18,7 @@ fn answer(heap: Global, options: &Options, bytes: &[u8]) -> Result<String, Probl
     let drawing = texts::read(heap, options.form, bytes)?;
     let row = drawing.row.as_slice();
     match options.output {
-        Output::Summary => Ok(summary::write(heap, texts::view(row), &drawing)?),
+        Output::Summary => Ok(summary::write(heap, texts::view(row)?, &drawing)?),
         Output::Row => numbers::write(heap, row),
         Output::Drawing => texts::draw(heap, row),
     }

@@ -60,10 +60,8 @@ fn names(
         .try_collect(heap)
 }
 
-fn write_output(heap: Global, options: &Options, drawing: &Drawing) -> Result<String, Trouble>
-    requires { (a : Automaton) × Reads drawing.now.row.items a }
-{
-    let automaton = texts::view(drawing.row.as_slice());
+fn write_output(heap: Global, options: &Options, drawing: &Drawing) -> Result<String, Trouble> {
+    let automaton = texts::view(drawing.row.as_slice())?;
     let known = drawing.positions.as_slice();
     let location = find_position(heap, options, known, automaton.locations())?;
     if options.part == 0 {
