@@ -61,6 +61,10 @@ impl<T: Drop> From<AllocFailed<T>> for Unfit {
 }
 
 impl From<UnknownRelation> for Unfit {
+    ghost use Rattle.clockworks.specs.declared.write.Unfit.TheVariants.{Relation as UnfitRelation};
+
+    ghost from_gives = { λ _ unfit. unfit ≡ UnfitRelation };
+
     fn from(_e: UnknownRelation) -> Unfit {
         Unfit::Relation
     }

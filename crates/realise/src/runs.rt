@@ -46,6 +46,10 @@ impl<T: Drop> From<AllocFailed<T>> for Failure {
 
 // A way of the automaton is one all of whose moves are allowed.
 impl From<Fault> for Failure {
+    ghost use Rattle.realise.specs.Failures.{failure_of};
+
+    ghost from_gives = { λ fault failure. failure ≡ failure_of fault };
+
     fn from(fault: Fault) -> Failure {
         match fault {
             Fault::NoRoom => Failure::NoRoom,
