@@ -48,6 +48,7 @@ impl fmt::Display for Unfit {
 
 impl Error for Unfit {}
 
+// By hand: thiserror's `#[from(alloc)]` wants a variant that holds the error, and nothing is told of it but that there was no memory.
 impl From<AllocError> for Unfit {
     fn from(_e: AllocError) -> Unfit {
         Unfit::Memory
