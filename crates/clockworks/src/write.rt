@@ -48,6 +48,7 @@ impl fmt::Display for Unfit {
 
 impl Error for Unfit {}
 
+// By hand: thiserror's `#[from(alloc)]` wants a variant that holds the error, and nothing is told of it but that there was no memory.
 impl From<AllocError> for Unfit {
     fn from(_e: AllocError) -> Unfit {
         Unfit::Memory
@@ -61,6 +62,10 @@ impl<T: Drop> From<AllocFailed<T>> for Unfit {
 }
 
 impl From<UnknownRelation> for Unfit {
+    ghost use Rattle.clockworks.specs.declared.write.Unfit.TheVariants.{Relation as UnfitRelation};
+
+    ghost from_gives = { λ _ unfit. unfit ≡ UnfitRelation };
+
     fn from(_e: UnknownRelation) -> Unfit {
         Unfit::Relation
     }

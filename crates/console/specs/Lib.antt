@@ -7,3 +7,4 @@ pub mod Budget
 pub mod Names
 pub mod Nearness
 pub mod Answers
+pub mod Problems

@@ -77,12 +77,20 @@ impl From<fmt::Error> for Problem {
 }
 
 impl From<Refusal> for Problem {
+    ghost use Rattle.console.specs.declared.messages.Problem.TheVariants.{Drawing};
+
+    ghost from_gives = { λ refusal problem. problem ≡ Drawing refusal };
+
     fn from(refusal: Refusal) -> Problem {
         Problem::Drawing(refusal)
     }
 }
 
 impl From<Unfit> for Problem {
+    ghost use Rattle.console.specs.Problems.{problem_of};
+
+    ghost from_gives = { λ unfit problem. problem ≡ problem_of unfit };
+
     fn from(unfit: Unfit) -> Problem {
         match unfit {
             Unfit::Memory => Problem::Memory,

@@ -76,7 +76,7 @@ pub fn value<T>(
     given: &Option<T>,
 ) -> Result<String, Mistake>
     ensures value { ValueIs (into_iter_items words.old) option.entry (is_some given.now) result (into_iter_items words.new) }
-    ensures fewer { length (into_iter_items words.new) ≤ length (into_iter_items words.old) }
+    ensures no_more { length (into_iter_items words.new) ≤ length (into_iter_items words.old) }
 {
     let word = words.next().ok_or(Mistake::NoValue(option))?;
     if given.is_some() {

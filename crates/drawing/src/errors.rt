@@ -1,7 +1,7 @@
 // Why a text is no drawing: where, what was found there, and what was expected.
 ghost use Rattle.std.specs.Prelude.{◌≡◌, ◌+◌, ◌≤◌, length, Some, take};
 ghost use Rattle.drawing.specs.Words.{text_of};
-ghost use Rattle.drawing.specs.Places.{newline_count, last_line_len as last_line_len_lem};
+ghost use Rattle.drawing.specs.Places.{newline_count, last_line_len as characters_since};
 
 use clockworks::write::Unfit;
 use std::error::Error;
@@ -16,7 +16,7 @@ pub struct Place {
 
 // A byte that goes on with a character is none of its own.
 fn last_line_len(text: &[u8]) -> usize
-    ensures characters { result ≡ last_line_len_lem text.now }
+    ensures characters { result ≡ characters_since text.now }
     ensures bound { result ≤ length text.now }
 {
     text.iter()
@@ -30,7 +30,7 @@ impl Place {
     // The place past the first `count` bytes of a text, or past all of them.
     pub fn after(bytes: &[u8], count: usize) -> Place
         ensures line { result.line ≡ newline_count (take count bytes.now) + 1 }
-        ensures column { result.column ≡ last_line_len_lem (take count bytes.now) + 1 }
+        ensures column { result.column ≡ characters_since (take count bytes.now) + 1 }
     {
         let before = &bytes[..count.min(bytes.len())];
         Place {

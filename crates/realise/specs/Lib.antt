@@ -1,2 +1,3 @@
 -- Runs along a way.
+pub mod Failures
 pub mod Runs

@@ -32,6 +32,7 @@ pub enum Failure {
     Astray,
 }
 
+// By hand: thiserror's `#[from(alloc)]` wants a variant that holds the error, and nothing is told of it but that there was no memory.
 impl From<AllocError> for Failure {
     fn from(_e: AllocError) -> Failure {
         Failure::Memory
@@ -46,6 +47,10 @@ impl<T: Drop> From<AllocFailed<T>> for Failure {
 
 // A way of the automaton is one all of whose moves are allowed.
 impl From<Fault> for Failure {
+    ghost use Rattle.realise.specs.Failures.{failure_of};
+
+    ghost from_gives = { λ fault failure. failure ≡ failure_of fault };
+
     fn from(fault: Fault) -> Failure {
         match fault {
             Fault::NoRoom => Failure::NoRoom,

@@ -7,8 +7,7 @@ ghost use Rattle.rows.specs.Reading.{relations_of, Repeated, Step, Tells, TellsE
 ghost use Rattle.rows.specs.Statements.{RowsRound};
 
 use crate::constraints::Relation;
-use crate::limits::{MOST_CLOCKS, MOST_LOCATIONS};
-pub use crate::limits::{MOST_BOUND, MOST_WORDS};
+use crate::limits::{MOST_BOUND, MOST_CLOCKS, MOST_LOCATIONS, MOST_WORDS};
 use crate::refusals::{Refusal, Rule};
 use crate::views::Automaton;
 
