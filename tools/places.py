@@ -24,6 +24,17 @@ def matching(pattern):
     return [f'{file}:{number}: {line.strip()}' for file, number, line in lines() if found.search(line)]
 
 
+def spanning(pattern):
+    """As `matching`, for a pattern that goes over line ends; the number is that of its first line."""
+    found = re.compile(pattern, re.M)
+    texts = [(file, file.read_text()) for file in FILES]
+    return [
+        f'{file}:{text.count(chr(10), 0, match.start()) + 1}: {" ".join(match.group().split())}'
+        for file, text in texts
+        for match in found.finditer(text)
+    ]
+
+
 def functions():
     """Each function's head, up to its clauses or body."""
     head = re.compile(r'^ *(?:pub(?:\(crate\))? )?fn ([a-z_0-9]+)[^(]*\((.*?)\)(?: ->|\n| \{)', re.S | re.M)
@@ -46,6 +57,15 @@ def flags():
     return matching(r'\) -> ((io::)?Result<)?bool')
 
 
+def handed_on():
+    """What `?`, `ok_or`, `map_err` hand on, handed on by a `let .. else`, an `if let` or an arm of a `match`."""
+    return spanning(
+        r'let (Some|Ok)\b[^;{}]* else \{\s*return (Err|None)\b'
+        r'|if let (Err|None)\b[^\n{]*\{\s*return (Err|None)\b'
+        r'|(None|Err\([^\n=]*\)) => (return )?(None|Err)\b'
+    )
+
+
 def numbers_for_kinds():
     return matching(r'^(pub )?const [A-Z_0-9]+: (u8|u32) = ')
 
@@ -65,6 +85,11 @@ def index_loops():
     return matching(r"^ *('[a-z_]+: )?(while |for [a-z_]+ in [^{]*\.\.)")
 
 
+def walks():
+    """Loops with a place or a number counted beside them, or that end by a test inside; and an element reached by its number."""
+    return matching(r"^ *('[a-z_]+: )?loop \{|\b(at|place|count|[ijn]) = next|\b[a-z_]+ \+= |\.nth\(")
+
+
 def by_hand():
     return matching(r'^impl.*\b(PartialEq|Eq|PartialOrd|Ord|Clone|Copy|From|TryFrom|Display|Error)\b.* for ')
 
@@ -76,10 +101,11 @@ def conversions():
 
 
 def premises():
-    """Facts that stand in three or more clauses: their heads, with how many clauses have each."""
+    """Facts that three or more clauses ask for, in a `requires` or before an arrow, with how many clauses do."""
     count = collections.Counter()
-    for _, _, line in clauses():
-        for fact in set(re.findall(r'\b(Views|write_constraints|Roomy|Small|FirstsKnown|TableIs|EdgesAre|Prepared|Indexed)\b', line)):
+    for _, _, clause in clauses():
+        asked = clause if clause.startswith('requires') else clause.rpartition('→')[0]
+        for fact in set(re.findall(r'(?<![:.] )(?<!\.)\b(?!IfOk|OnOk|IfSome)[A-Z][A-Za-z]+(?= )|[a-z_.]+ [≤<] [0-9a-z_.^]+', asked)):
             count[fact] += 1
     return [f'{fact}: {number} clauses' for fact, number in sorted(count.items()) if number >= 3]
 
@@ -94,22 +120,33 @@ def long_heads():
     ]
 
 
+def lent_words():
+    """Slices of words as parameters or fields: each may have a count or a place beside it."""
+    return matching(r"\b[a-z_]+: &('[a-z]+ )?(mut )?\[u32\]")
+
+
 def arenas():
-    """Lent words with a count or a place beside them, and vectors of numbers of other elements."""
-    return matching(r'^ *[a-z_]+: (&(\'a )?mut \[u32\]),?$') + matching(r'Vec<(usize|Element)>')
+    """Fields that are vectors: they may be lists that are searched, or hold numbers of other elements."""
+    return matching(r'^ *(pub(\([a-z]+\))? )?[a-z_]+: Vec<')
+
+
+def cut_by_hand():
+    """The first of a list, or what is left of it, by a number."""
+    return matching(r'[a-z_]\[(0|1\.\.|at\.\.|[a-z_]+ \+ 1\.\.)\]')
 
 
 def switches():
-    return matching(r'\b(dyn|impl Fn|fn\() ?|FnMut|FnOnce')
+    """Closures, `dyn` and pointers to functions as types."""
+    return matching(r'\b(dyn|impl Fn)\b|\b(fn|Fn|FnMut|FnOnce)\(')
 
 
 POINTS = {
-    '1': [enums, flags, numbers_for_kinds],
+    '1': [enums, flags, handed_on, numbers_for_kinds],
     '2': [twins],
-    '3': [index_loops],
+    '3': [index_loops, walks],
     '4': [by_hand, conversions],
     '5': [premises, long_heads],
-    '6': [arenas],
+    '6': [lent_words, arenas, cut_by_hand],
     '7': [switches],
 }
 
