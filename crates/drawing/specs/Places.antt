@@ -1,5 +1,6 @@
--- How far a text goes on: the lines that end in it, and the characters of its last line.
-use Rattle.std.specs.Prelude.{ℕ, Bool, not, ◌==◌, List, reverse, take_while, count_by, bit_and}
+-- How far a text goes on: the lines that end in it, and the characters of its last line. And a place as text.
+use Rattle.std.specs.Prelude.{ℕ, Bool, not, ◌==◌, List, ◌++◌, reverse, take_while, count_by, bit_and, codes, decimal}
+use Rattle.drawing.specs.declared.errors.Place.{Place}
 
 abbrev pub is_newline : ℕ → Bool
 is_newline b = b == 10
@@ -13,3 +14,7 @@ newline_count text = count_by is_newline text
 
 abbrev pub last_line_len : List ℕ → ℕ
 last_line_len text = count_by begins_character (take_while (λ b. not (is_newline b)) (reverse text))
+
+-- the line, a colon and the column
+abbrev pub place_text : Place → List ℕ
+place_text p = decimal p.line ++ (codes ":" ++ decimal p.column)

@@ -1,7 +1,7 @@
 // Why a text is no drawing: where, what was found there, and what was expected.
 ghost use Rattle.std.specs.Prelude.{◌≡◌, ◌+◌, ◌≤◌, length, Some, take};
 ghost use Rattle.drawing.specs.Words.{text_of};
-ghost use Rattle.drawing.specs.Places.{newline_count, last_line_len as characters_since};
+ghost use Rattle.drawing.specs.Places.{newline_count, last_line_len as characters_since, place_text};
 
 use clockworks::write::Unfit;
 use std::error::Error;
@@ -37,6 +37,17 @@ impl Place {
             line: before.iter().filter(|byte| **byte == b'\n').count() + 1,
             column: last_line_len(before) + 1,
         }
+    }
+}
+
+// As `LINE:COLUMN`.
+impl fmt::Display for Place {
+    ghost output = { λ place. Some (place_text place) };
+
+    fn fmt<W: fmt::Write>(&self, f: &mut fmt::Formatter<W>) -> fmt::Result {
+        let line = self.line;
+        let column = self.column;
+        write!(f, "{line}:{column}")
     }
 }
 
@@ -170,7 +181,7 @@ impl fmt::Display for Expected {
     }
 }
 
-// As `LINE:COLUMN: found .., expected ..`.
+// As `PLACE: found .., expected ..`.
 impl fmt::Display for Refusal {
     fn fmt<W: fmt::Write>(&self, f: &mut fmt::Formatter<W>) -> fmt::Result {
         match self {
@@ -179,11 +190,7 @@ impl fmt::Display for Refusal {
                 place,
                 found,
                 expected,
-            } => {
-                let line = place.line;
-                let column = place.column;
-                write!(f, "{line}:{column}: found {found}, expected {expected}")
-            }
+            } => write!(f, "{place}: found {found}, expected {expected}"),
         }
     }
 }
