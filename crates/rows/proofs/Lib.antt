@@ -5,3 +5,4 @@ pub mod Whole
 pub mod Parts
 pub mod Values
 pub mod Invariants
+pub mod Spelling

@@ -1,6 +1,7 @@
 -- Rows read back as automata.
 pub mod Parse
 pub mod Refusals
+pub mod Numbers
 pub mod Statements
 pub mod Parts
 pub mod Values

@@ -6,6 +6,7 @@ pub mod constraints;
 mod counted;
 pub mod edges;
 pub mod limits;
+pub mod numbers;
 pub mod reader;
 pub mod refusals;
 pub mod views;
