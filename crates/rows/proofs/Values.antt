@@ -12,6 +12,7 @@ use Rattle.rows.specs.Parse.{constraint}
 use Rattle.rows.specs.Values.{constraints_value, conjunction_value, edge_value}
 use Rattle.rows.specs.Viewed.{or_nothing, value_of}
 use Rattle.rows.specs.Views.{Views, automaton_value, InvariantIs}
+use Rattle.rows.specs.Standing.{ValuesStand}
 use Rattle.rows.proofs.Round.{relation_of-code, complete}
 
 pub constraints_value-written : (cs : List automata.Constraint) → constraints_value (write_constraints cs) ≡ cs
@@ -75,3 +76,7 @@ views v =
 
 pub automaton_value-is : (v : Automaton) (a : automata.Automaton) → Views v a → a ≡ automaton_value v
 automaton_value-is v a w = sym (value_of-is v.row.now a w.reads)
+
+pub values_stand : ValuesStand
+values_stand =
+    record { views = views; automaton = automaton_value-is; constraints = constraints_value-is; edge = edge_value-is }

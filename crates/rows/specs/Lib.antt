@@ -8,4 +8,5 @@ pub mod Values
 pub mod EdgeParts
 pub mod Viewed
 pub mod Views
+pub mod Standing
 pub mod Reading

@@ -10,8 +10,11 @@ use Rattle.automata.specs.Rows as automata_rows
 use Rattle.rows.specs.declared.constraints.Relation.{Relation}
 use Rattle.rows.specs.declared.constraints.Relation.TheVariants.{AtMost, Below, AtLeast, Above}
 use Rattle.rows.specs.declared.constraints.UnknownRelation.{UnknownRelation}
+use Rattle.rows.specs.declared.constraints.Owner.{Owner}
+use Rattle.rows.specs.declared.constraints.Owner.TheVariants as owner
 use Rattle.rows.specs.declared.constraints.Constraint.{Constraint}
 use Rattle.rows.specs.declared.constraints.Conjunction.{Conjunction}
+use Rattle.rows.specs.Parse.{upper_only, all_relations}
 
 abbrev pub relation_value : Relation → automata.Relation
 relation_value AtMost = automata.at_most
@@ -37,6 +40,11 @@ relates cmp AtMost a b = is_le (cmp a b)
 relates cmp Below a b = is_lt (cmp a b)
 relates cmp AtLeast a b = is_ge (cmp a b)
 relates cmp Above a b = is_gt (cmp a b)
+
+-- the relations of an invariant are the first two, those of a guard all four
+abbrev pub relations_of : Owner → ℕ
+relations_of owner.Location = upper_only
+relations_of owner.Edge = all_relations
 
 abbrev pub constraint_value : Constraint → automata.Constraint
 constraint_value c = record { clock = c.clock.0; relation = relation_value c.relation; bound = c.bound }

@@ -4,19 +4,12 @@ use Rattle.std.proofs.Math.Option.{some, none}
 use Rattle.automata.specs.Automata as automata
 use Rattle.automata.specs.Rows.{Reads}
 use Rattle.automata.specs.Statements.{OneAutomaton}
-use Rattle.rows.specs.declared.reader.Owner.{Owner}
-use Rattle.rows.specs.declared.reader.Owner.TheVariants as owner
 use Rattle.rows.specs.declared.refusals.Refusal.{Refusal}
 use Rattle.rows.specs.declared.refusals.Rule.{Rule}
 use Rattle.rows.specs.declared.refusals.Rule.TheVariants.{TooLong, Ends, Clocks, Locations, Clock, Relation, LowerBound, Bound, Location}
 use Rattle.rows.specs.declared.views.Automaton.{Automaton}
-use Rattle.rows.specs.Parse.{Outcome, upper_only, all_relations}
+use Rattle.rows.specs.Parse.{Outcome}
 use Rattle.rows.specs.Views.{Views}
-
--- the relations of an invariant are the first two, those of a guard all four
-abbrev pub relations_of : Owner → ℕ
-relations_of owner.Location = upper_only
-relations_of owner.Edge = all_relations
 
 -- what is wrong at the word
 abbrev pub Wrong : List ℕ → Rule → ℕ → Type 0

@@ -1,12 +1,12 @@
 // Constraints on clocks, by value, and lists of them as parts of a row.
-ghost use Rattle.std.specs.Prelude.{◌≡◌, ℕ, ◌<◌, ◌≤◌, List, ◌∷◌, ◌++◌, length, drop, codes, decimal, Some, IfSome};
+ghost use Rattle.std.specs.Prelude.{◌≡◌, ℕ, ◌<◌, ◌≤◌, List, ◌∷◌, ◌++◌, length, drop, codes, decimal, nat_lt, Some, IfSome};
 ghost use Rattle.std.specs.Iterator.{at_most};
 ghost use Rattle.automata.specs.Rows.{write_constraints};
 ghost use Rattle.automata.specs.Automata.{nth};
 ghost use Rattle.automata.specs.Automata as automata;
 ghost use Rattle.automata.specs.Rows.{code, upper};
 ghost use Rattle.rows.specs.Parse.{relation_of};
-ghost use Rattle.rows.specs.Parts.{relation_value, relation_text, RelationRead, relates, ConstraintIs, ConjunctionAt};
+ghost use Rattle.rows.specs.Parts.{relation_value, relation_text, RelationRead, relates, relations_of, ConstraintIs, ConjunctionAt};
 ghost use Rattle.rows.specs.Values.{constraints_value, conjunction_value, NextConstraint};
 
 use crate::counted::part_at;
@@ -102,6 +102,25 @@ impl Relation {
             Relation::Below => value < bound,
             Relation::AtLeast => value >= bound,
             Relation::Above => value > bound,
+        }
+    }
+}
+
+// Whose constraints they are.
+#[derive(Clone, Copy, Debug, PartialEq, Eq)]
+pub enum Owner {
+    Location,
+    Edge,
+}
+
+impl Owner {
+    // An invariant bounds clocks from above only.
+    pub fn takes(self, relation: Relation) -> bool
+        ensures { result ≡ nat_lt (code (relation_value relation)) (relations_of self) }
+    {
+        match self {
+            Owner::Location => relation.bounds_above(),
+            Owner::Edge => true,
         }
     }
 }

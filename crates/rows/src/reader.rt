@@ -1,34 +1,15 @@
 // Reads a row: goes over its words once, and tells where its edges begin or which rule it breaks.
-ghost use Rattle.std.specs.Prelude.{◌≡◌, ℕ, suc, ◌+◌, ◌<◌, ◌≤◌, length, slice_index, nat_lt};
-ghost use Rattle.automata.specs.Rows.{code};
+ghost use Rattle.std.specs.Prelude.{◌≡◌, ℕ, suc, ◌+◌, ◌<◌, ◌≤◌, length, slice_index};
 ghost use Rattle.rows.specs.Parse.{parse_constraints, parse_conjunction, parse_invariants, parse_clocks, parse_resets, parse_edge, parse_edges};
-ghost use Rattle.rows.specs.Parts.{relation_value};
-ghost use Rattle.rows.specs.Reading.{relations_of, Repeated, Step, Tells, TellsEnd, ReadPost};
+ghost use Rattle.rows.specs.Parts.{relations_of};
+ghost use Rattle.rows.specs.Reading.{Repeated, Step, Tells, TellsEnd, ReadPost};
+ghost use Rattle.rows.specs.Standing.{ValuesStand};
 ghost use Rattle.rows.specs.Statements.{RowsRound};
 
-use crate::constraints::Relation;
+use crate::constraints::{Owner, Relation};
 use crate::limits::{MOST_BOUND, MOST_CLOCKS, MOST_LOCATIONS, MOST_WORDS};
 use crate::refusals::{Refusal, Rule};
 use crate::views::Automaton;
-
-// Whose constraints are read.
-#[derive(Clone, Copy)]
-enum Owner {
-    Location,
-    Edge,
-}
-
-impl Owner {
-    // An invariant bounds clocks from above only.
-    fn takes(self, relation: Relation) -> bool
-        ensures { result ≡ nat_lt (code (relation_value relation)) (relations_of self) }
-    {
-        match self {
-            Owner::Location => relation.bounds_above(),
-            Owner::Edge => true,
-        }
-    }
-}
 
 // Reads a number of parts from a place on, each where the one before ends: where the last ends.
 fn check_each<F: Fn(usize) -> Result<usize, Refusal>>(
@@ -67,9 +48,7 @@ impl Reader<'_> {
         if row[at] >= self.clocks {
             return Err(Rule::Clock.at(at));
         }
-        let Ok(relation) = Relation::try_from(row[at + 1]) else {
-            return Err(Rule::Relation.at(at + 1));
-        };
+        let relation = Relation::try_from(row[at + 1]).map_err(|_| Rule::Relation.at(at + 1))?;
         if !owner.takes(relation) {
             return Err(Rule::LowerBound.at(at + 1));
         }
@@ -162,6 +141,7 @@ impl Reader<'_> {
 pub fn read(row: &[u32]) -> Result<Automaton<'_>, Refusal>
     ensures post { ReadPost row.now result }
     ensures round { RowsRound }
+    ensures values { ValuesStand }
 {
     if row.len() > MOST_WORDS {
         return Err(Rule::TooLong.at(MOST_WORDS));

@@ -4,6 +4,7 @@ use Rattle.std.proofs.lemmas.Result.{err_from_is_err_and}
 use Rattle.rows.specs.declared.refusals.Rule.TheVariants.{TooLong, Ends, Clocks, Locations}
 use Rattle.rows.proofs.Whole.{refused, viewed, accepted, parse-short, parse-long, parse-clocks, parse-locations, parse-invariants, parse-edges}
 use Rattle.rows.proofs.Round.{rows_round}
+use Rattle.rows.proofs.Values.{values_stand}
 use Rattle.rows.proofs.reader.read.Goals as goal
 use Rattle.rows.proofs.reader.read.Goals.{then-clocks-lt1-via-then-clocks-lt1, then-clocks-lt1-via-else-clocks-lt1+then-clocks-gt-MOST_CLOCKS, then-locations-lt1-via-then-locations-lt1, then-locations-lt1-via-else-locations-lt1+then-locations-gt-MOST_LOCATIONS}
 
@@ -13,6 +14,7 @@ returns-then-row-gt-MOST_WORDS c =
       post =
           rw c.at.ensures (refused c.args.row.now (record { rule = TooLong; word = 16384 }) (parse-long c.args.row.now c.if-row-gt-MOST_WORDS.true) (c.if-row-gt-MOST_WORDS.true, refl));
       round = rows_round;
+      values = values_stand;
     }
 
 pub returns-then-row-lt2 : goal.returns-then-row-lt2
@@ -21,6 +23,7 @@ returns-then-row-lt2 c =
       post =
           rw c.at-then-row-lt2.ensures (refused c.args.row.now (record { rule = Ends; word = length c.args.row.now }) (parse-short c.args.row.now c.if-row-lt2.true) refl);
       round = rows_round;
+      values = values_stand;
     }
 
 pub returns-then-clocks-lt1 : goal.returns-then-clocks-lt1
@@ -34,6 +37,7 @@ returns-then-clocks-lt1 c =
           ] in
           rw c.at-then-clocks-lt1.ensures (refused c.args.row.now (record { rule = Clocks; word = 0 }) (parse-clocks c.args.row.now out) (refl, out));
       round = rows_round;
+      values = values_stand;
     }
 
 pub returns-then-locations-lt1 : goal.returns-then-locations-lt1
@@ -47,6 +51,7 @@ returns-then-locations-lt1 c =
           ] in
           rw c.at-then-locations-lt1.ensures (refused c.args.row.now (record { rule = Locations; word = 1 }) (parse-locations c.args.row.now out) (refl, out));
       round = rows_round;
+      values = values_stand;
     }
 
 pub returns-in_err-edges : goal.returns-in_err-edges
@@ -57,6 +62,7 @@ returns-in_err-edges c =
           let e = c.in_err-edges.ensures in
           rw (p.1, p.2) (refused c.args.row.now _ (parse-invariants c.args.row.now c.if-row-lt2.false e.0) e.1);
       round = rows_round;
+      values = values_stand;
     }
 
 pub returns-in_err-check_edges : goal.returns-in_err-check_edges
@@ -70,6 +76,7 @@ returns-in_err-check_edges c =
           (p.1, p.2)
           (refused c.args.row.now _ (parse-edges c.args.row.now e.2.0 _ e.2.1 f.0) f.1);
       round = rows_round;
+      values = values_stand;
     }
 
 pub new-requires : goal.new-requires
@@ -79,4 +86,4 @@ new-requires c =
     viewed c.args.row.now e.2.0 c.in_ok-edges.edges f.0 f.1 c.if-row-lt2.false c.if-row-gt-MOST_WORDS.false c.if-clocks-lt1.false c.if-clocks-gt-MOST_CLOCKS.false c.if-locations-lt1.false c.if-locations-gt-MOST_LOCATIONS.false e.2.1 f.2
 
 pub returns : goal.returns
-returns c = record { post = accepted c.args.row.now c.new.result c.new.ensures.row_is; round = rows_round }
+returns c = record { post = accepted c.args.row.now c.new.result c.new.ensures.row_is; round = rows_round; values = values_stand }

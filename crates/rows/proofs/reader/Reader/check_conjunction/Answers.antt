@@ -1,7 +1,7 @@
 -- The constraints are read one by one; the first that is refused refuses all.
 use Rattle.std.proofs.Common.{[], ◌+◌, get_or, refl, rules, arith}
 use Rattle.rows.specs.Parse.{parse_constraints, parse_conjunction}
-use Rattle.rows.specs.Reading.{relations_of}
+use Rattle.rows.specs.Parts.{relations_of}
 use Rattle.rows.proofs.Walking.{conjunction_ends, conjunction_starts, each-tells}
 use Rattle.rows.proofs.reader.Reader.check_conjunction.Goals as goal
 

@@ -1,13 +1,14 @@
 -- A constraint is refused where one of its words does not fit; otherwise the reading goes on behind it.
-use Rattle.std.proofs.Common.{◌≡◌, ℕ, ◌+◌, ◌<◌, ◌≤◌, true, length, get_or, refl, sym, ◌∙◌, subst, ltb-true, ltb-false, arith}
+use Rattle.std.proofs.Common.{◌≡◌, ℕ, ◌+◌, ◌<◌, ◌≤◌, true, length, get_or, Ok, Err, Result, refl, sym, ◌∙◌, subst, ltb-true, arith}
+use Rattle.std.specs.Prelude.{MatchResult, is_ok}
 use Rattle.automata.specs.Rows.{code}
-use Rattle.rows.specs.declared.reader.Owner.{Owner}
-use Rattle.rows.specs.declared.reader.Owner.TheVariants.{Location, Edge}
+use Rattle.rows.specs.declared.constraints.Relation.{Relation}
+use Rattle.rows.specs.declared.constraints.UnknownRelation.{UnknownRelation}
+use Rattle.rows.specs.declared.refusals.Refusal.{Refusal}
 use Rattle.rows.specs.Parse.{fits}
-use Rattle.rows.specs.Parts.{relation_value}
-use Rattle.rows.specs.Reading.{relations_of}
+use Rattle.rows.specs.Parts.{relation_value, relations_of, RelationRead}
 use Rattle.rows.proofs.Round.{fits-from}
-use Rattle.rows.proofs.Walking.{constraint-ends, constraint-clock, constraint-relation, constraint-bound, constraint-fits}
+use Rattle.rows.proofs.Walking.{constraint-ends, constraint-fits}
 use Rattle.rows.proofs.reader.Reader.check_constraint.Goals as goal
 use Rattle.rows.proofs.reader.Reader.check_constraint.Goals.{then-at-row-via-then-at-row, then-at-row-via-else-at-row+then-row-at-lt3}
 
@@ -20,52 +21,21 @@ returns-then-at-row c =
     ] in
     rw c.at.ensures (constraint-ends c.args.self.now.clocks (relations_of c.args.owner) c.args.self.now.row.now c.args.at short, refl)
 
--- an invariant has the first two relations
-lower_of : (o : Owner) → 2 ≤ relations_of o
-lower_of Location = omega arith
-lower_of Edge = omega arith
-
-pub returns-then-row-at : goal.returns-then-row-at
-returns-then-row-at c =
-    let room : c.args.at + 3 ≤ length c.args.self.now.row.now = omega arith in
-    rw
-    c.at-then-row-at.ensures (
-      constraint-clock c.args.self.now.clocks (relations_of c.args.owner) c.args.self.now.row.now c.args.at room c.if-row-at.true,
-      omega arith,
-    )
-
-pub returns-then-not-takes : goal.returns-then-not-takes
-returns-then-not-takes c =
-    let row = c.args.self.now.row.now in
-    let room : c.args.at + 3 ≤ length row = omega arith in
-    let word : code (relation_value c.in-Ok.relation) ≡ get_or row (c.args.at + 1) 0 = c.in-Ok.ensures in
-    let unfit : relations_of c.args.owner ≤ get_or row (c.args.at + 1) 0 =
-    subst (λ (w : ℕ). relations_of c.args.owner ≤ w) word (ltb-false _ _ (sym c.takes.ensures ∙ c.if-not-takes.true)) in
-    let lower : 2 ≤ relations_of c.args.owner = lower_of c.args.owner in
-    rw
-    c.at-then-not-takes.ensures (
-      constraint-relation c.args.self.now.clocks (relations_of c.args.owner) row c.args.at room c.if-row-at.false unfit,
-      (omega arith, omega arith),
-    )
-
-pub returns-then-row-at-gt-MOST_BOUND : goal.returns-then-row-at-gt-MOST_BOUND
-returns-then-row-at-gt-MOST_BOUND c =
-    let row = c.args.self.now.row.now in
-    let room : c.args.at + 3 ≤ length row = omega arith in
-    let word : code (relation_value c.in-Ok.relation) ≡ get_or row (c.args.at + 1) 0 = c.in-Ok.ensures in
-    let fit : get_or row (c.args.at + 1) 0 < relations_of c.args.owner =
-    subst (λ (w : ℕ). w < relations_of c.args.owner) word (ltb-true _ _ (sym c.takes.ensures ∙ c.if-not-takes.false)) in
-    rw
-    c.at-then-row-at-gt-MOST_BOUND.ensures (
-      constraint-bound c.args.self.now.clocks (relations_of c.args.owner) row c.args.at room c.if-row-at.false fit c.if-row-at-gt-MOST_BOUND.true,
-      (omega arith, c.if-row-at-gt-MOST_BOUND.true),
-    )
+-- a relation that was read has the number that stands there
+word_of : (P : UnknownRelation → Type 0) (word : ℕ) (read : Result Relation UnknownRelation) (r : Relation)
+    → RelationRead word read
+    → MatchResult read (λ (x : Relation). ◌≡◌ {A = Result Relation Refusal} (Ok r) (Ok x)) P
+    → true ≡ is_ok read
+    → code (relation_value r) ≡ word
+word_of P word (Ok x) r is same ok = let e : r ≡ x = cc in rw e is
+word_of P word (Err e) r is same ok = let z : ◌≡◌ {A = ℕ} 0 1 = cc in absurd (omega arith)
 
 pub returns : goal.returns
 returns c =
     let row = c.args.self.now.row.now in
     let room : c.args.at + 3 ≤ length row = omega arith in
-    let word : code (relation_value c.in-Ok.relation) ≡ get_or row (c.args.at + 1) 0 = c.in-Ok.ensures in
+    let word : code (relation_value c.in_ok-relation.relation) ≡ get_or row (c.args.at + 1) 0 =
+    word_of _ _ c.try_from.result c.in_ok-relation.relation c.try_from.ensures c.in_ok-relation.ensures.cases c.in_ok-relation.ensures.variant in
     let fit : get_or row (c.args.at + 1) 0 < relations_of c.args.owner =
     subst (λ (w : ℕ). w < relations_of c.args.owner) word (ltb-true _ _ (sym c.takes.ensures ∙ c.if-not-takes.false)) in
     let all
