@@ -4,3 +4,4 @@ pub mod Digits
 pub mod Places
 pub mod Spelling
 pub mod Changes
+pub mod Words

@@ -2,11 +2,9 @@
 use Rattle.std.specs.Fmt.{char_count, format_spec, padded, styled_text, take_chars}
 use Rattle.std.specs.List.{repeat}
 use lib.Utf8.{encode}
-use Rattle.std.proofs.Common.{◌≡◌, ℕ, zero, suc, ◌-◌, ◌<◌, Bool, true, false, cond, ◌&&◌, eqb, true-eqb, List, [], ◌++◌, map, length, get_or, codes, decimal, sym, refl, ap, ◌∙◌, arith}
+use Rattle.std.proofs.Common.{◌≡◌, ℕ, zero, suc, ◌-◌, ◌<◌, Bool, true, false, cond, ◌&&◌, eqb, true-eqb, List, [], ◌++◌, map, length, get_or, codes, sym, refl, ap, ◌∙◌, arith}
 use Rattle.std.proofs.lemmas.List.{get_or-map}
-use Rattle.clockworks.proofs.Writing.{Walk}
 use Rattle.console.specs.Answers.{blanks}
-use Rattle.console.specs.Rows.{more_numbers}
 
 one_blank_first : (n : ℕ) → blanks n ++ codes " " ≡ codes " " ++ blanks n
 one_blank_first zero = refl
@@ -32,6 +30,3 @@ filled n = filled_where (eqb n 0) n (λ e. true-eqb n 0 (sym e))
 -- an element that was read, by what f gives of it
 pub read_map : {X : Type 0} (f : X → List ℕ) (xs : List X) (i : ℕ) (x : X) (d : List ℕ) → i < length xs → x ≡ get_or xs i x → get_or (map f xs) i d ≡ f x
 read_map f xs i x d lt is = get_or-map f xs i x d lt ∙ ap f (sym is)
-
-pub numbers_walk : Walk (λ n. codes " " ++ decimal n) more_numbers (λ _. true) (λ _. true)
-numbers_walk = record { no_words = refl; more_words = λ _ _. refl; none_fits = refl; more_fit = λ _ _. refl }

@@ -1,6 +1,10 @@
 -- Positions by their names, or by their numbers where they have none.
-use Rattle.std.specs.Prelude.{◌≡◌, ℕ, ◌<◌, ◌≤◌, ◌⊎◌, List, [], length, Some, None, decimal, Option, slice_index_or}
+use Rattle.std.specs.Prelude.{◌≡◌, ℕ, ◌<◌, ◌≤◌, ◌⊎◌, List, [], ◌++◌, length, Some, None, decimal, Option, slice_index_or}
 use Rattle.console.specs.Numbers.{number_of}
+
+-- the name of number n; some letters and the number where it has no name
+abbrev pub called_text : List (List ℕ) → List ℕ → ℕ → List ℕ
+called_text names letters n = slice_index_or names n (letters ++ decimal n)
 
 -- the name of position n; its number where it has no name
 abbrev pub name_text : List (List ℕ) → ℕ → List ℕ

@@ -1,5 +1,7 @@
 -- A row of numbers as text: words of digits with white space between them.
-use Rattle.std.specs.Prelude.{◌≡◌, ℕ, ◌<◌, ◌≤◌, Bool, true, false, ◌&&◌, ◌||◌, List, [], ◌∷◌, ◌++◌, length, Some, None, codes, decimal, ◌==◌, nat_le, slice_index, slice_range}
+use Rattle.std.specs.Prelude.{◌≡◌, ℕ, ◌<◌, ◌≤◌, Bool, true, false, ◌&&◌, ◌||◌, List, [], ◌∷◌, ◌++◌, length, Some, None, Option, ◌==◌, nat_le, slice_index, slice_range}
+use Rattle.console.specs.declared.numbers.Word.{Word}
+use Rattle.console.specs.declared.numbers.Words.{Words}
 use Rattle.console.specs.declared.numbers.Mistake.{Mistake}
 use Rattle.console.specs.declared.numbers.Mistake.TheVariants.{Memory, NoNumber, TooMany}
 use Rattle.console.specs.Numbers.{number_of}
@@ -25,6 +27,13 @@ pub record NextWord (bytes : List ℕ) (from start stop : ℕ) : Type 0 where
 
 abbrev pub word_text : List ℕ → ℕ → ℕ → List ℕ
 word_text bytes start stop = slice_range bytes start stop
+
+-- the next word, behind which the others are; or none, where all that is left is blank
+abbrev pub GivesWord : Words → Option Word → Words → Type 0
+GivesWord s None t = AllBlank s.bytes.now s.at (length s.bytes.now) true
+GivesWord s (Some word) t =
+    NextWord s.bytes.now s.at word.start t.at × (word.start < length s.bytes.now) × (word.text.now ≡ word_text s.bytes.now word.start t.at)
+    × (t.bytes.now ≡ s.bytes.now)
 
 -- the words up to a place are these numbers
 pub data Numbered (bytes : List ℕ) : ℕ → List ℕ → Type 0 where
@@ -58,12 +67,3 @@ abbrev pub RowRefused : List ℕ → Mistake → Type 0
 RowRefused bytes Memory = Unit {0}
 RowRefused bytes (NoNumber count) = (w : WordAfter bytes count) × (number_of (word_text bytes w.start w.stop) ≡ None)
 RowRefused bytes TooMany = WordAfter bytes 16384
-
-abbrev pub more_numbers : List ℕ → List ℕ
-more_numbers [] = []
-more_numbers (n ∷ ns) = (codes " " ++ decimal n) ++ more_numbers ns
-
--- the numbers with a blank between them
-abbrev pub numbers_text : List ℕ → List ℕ
-numbers_text [] = []
-numbers_text (n ∷ ns) = decimal n ++ more_numbers ns

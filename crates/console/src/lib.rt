@@ -5,6 +5,7 @@ pub mod answers;
 pub mod budget;
 pub mod input;
 pub mod messages;
+pub mod names;
 pub mod nearness;
 pub mod numbers;
 pub mod options;

@@ -61,6 +61,7 @@ pub struct Report<'a> {
     pub problem: &'a Problem,
 }
 
+// By hand: a derive has no clause to say that it is `Memory`.
 impl From<AllocError> for Problem {
     ghost from_gives = { λ _ problem. problem ≡ Memory };
 
@@ -164,14 +165,7 @@ impl<'a> fmt::Display for Report<'a> {
                 place,
                 found,
                 expected,
-            } => {
-                let line = place.line;
-                let column = place.column;
-                write!(
-                    f,
-                    "{source}:{line}:{column}: found {found}, expected {expected}"
-                )
-            }
+            } => write!(f, "{source}:{place}: found {found}, expected {expected}"),
             Problem::Position(unknown) => write!(f, "{source}: {unknown}"),
             Problem::Kinds { asked, fit } => write!(
                 f,

@@ -1,14 +1,15 @@
 // A row of numbers as text: decimal numbers with white space between them, and the place of each.
-ghost use Rattle.std.specs.Prelude.{◌≡◌, ◌≤◌, not, ◌++◌, length, position, IfOk, string_bytes, codes, MatchResult, OnOk};
+ghost use Rattle.std.specs.Prelude.{◌≡◌, ◌+◌, ◌-◌, ◌≤◌, not, ◌++◌, length, position, IfOk, string_bytes, codes, MatchResult};
 ghost use Rattle.std.specs.Bool.{beq};
-ghost use Rattle.clockworks.specs.Meaning.{Adds};
 ghost use Rattle.console.specs.Numbers.{number_of};
 ghost use Rattle.console.specs.declared.numbers.Mistake.TheVariants.{Memory};
-ghost use Rattle.console.specs.Rows.{blank as isBlankByte, FirstBlank, NextWord, RowIs, RowRefused, numbers_text};
+ghost use Rattle.console.specs.Rows.{blank as isBlankByte, FirstBlank, RowIs, RowRefused};
+ghost use Rattle.rows.specs.Numbers.{numbers_text};
 
 use crate::messages::Problem;
 use rows::limits::MOST_WORDS;
-use std::alloc::{AllocError, AllocFailed, Global};
+use rows::numbers::Numbers;
+use std::alloc::{AllocFailed, Global};
 
 // Why a text is no row of numbers. Words are counted from 0.
 #[derive(Clone, Copy)]
@@ -18,6 +19,21 @@ pub enum Mistake {
     TooMany,
 }
 
+// A word of a text, and the place at which it begins.
+#[derive(Clone, Copy)]
+pub(crate) struct Word<'a> {
+    pub start: usize,
+    pub text: &'a [u8],
+}
+
+// The words of a text from a place on.
+#[derive(Clone, Copy)]
+struct Words<'a> {
+    bytes: &'a [u8],
+    at: usize,
+}
+
+// By hand: a derive has no clause to say that it is `Memory`.
 impl<T: Drop> From<AllocFailed<T>> for Mistake {
     ghost from_gives = { λ _ mistake. mistake ≡ Memory };
 
@@ -49,13 +65,30 @@ fn find_blank(bytes: &[u8], at: usize, blank: bool) -> usize
     at + first_blank(rest, blank).unwrap_or(rest.len())
 }
 
-// The next word from a place on, as where it begins and ends. At the end of the text it is empty.
-fn next_word(bytes: &[u8], at: usize) -> (usize, usize)
-    requires { at ≤ length bytes.now }
-    ensures { NextWord bytes.now at result.0 result.1 }
-{
-    let start = find_blank(bytes, at, false);
-    (start, find_blank(bytes, start, true))
+impl<'a> Iterator for Words<'a> {
+    ghost use Rattle.std.specs.Iterator.{at_most};
+    ghost use Rattle.console.specs.Rows.{GivesWord};
+
+    type Item = Word<'a>;
+
+    ghost can_next = { λ s. s.at ≤ length s.bytes.now };
+
+    ghost next_gives = { GivesWord };
+
+    ghost remaining = { λ s. at_most (length s.bytes.now - s.at) };
+
+    fn next(&mut self) -> Option<Word<'a>> {
+        let start = find_blank(self.bytes, self.at, false);
+        if start == self.bytes.len() {
+            return None;
+        }
+        let stop = find_blank(self.bytes, start, true);
+        self.at = stop;
+        Some(Word {
+            start,
+            text: &self.bytes[start..stop],
+        })
+    }
 }
 
 // The number that a word of digits writes, if it is one and fits.
@@ -74,51 +107,29 @@ pub fn read(heap: Global, bytes: &[u8]) -> Result<Vec<u32>, Mistake>
     ensures { MatchResult result (λ row. RowIs bytes.now row.items) (λ mistake. RowRefused bytes.now mistake) }
 {
     let mut numbers = Vec::new(heap);
-    let (mut start, mut stop) = next_word(bytes, 0);
-    while start < bytes.len() {
+    for word in (Words { bytes, at: 0 }) {
         if numbers.len() == MOST_WORDS {
             return Err(Mistake::TooMany);
         }
-        let Some(number) = parse(&bytes[start..stop]) else {
-            return Err(Mistake::NoNumber(numbers.len()));
-        };
+        let number = parse(word.text).ok_or(Mistake::NoNumber(numbers.len()))?;
         numbers.push(number)?;
-        (start, stop) = next_word(bytes, stop);
     }
     Ok(numbers)
 }
 
-// Where a word begins and ends: both at the end of the text where there is no such word.
-pub(crate) fn find_word(bytes: &[u8], word: usize) -> (usize, usize)
-    ensures { (result.0 ≤ result.1) × (result.1 ≤ length bytes.now) }
+// A word of a text: an empty one at the end of the text where there is no such word.
+pub(crate) fn find_word(bytes: &[u8], word: usize) -> Word<'_>
+    ensures { result.start + length result.text.now ≤ length bytes.now }
 {
-    let (mut start, mut stop) = next_word(bytes, 0);
-    for _ in 0..word.min(bytes.len()) {
-        (start, stop) = next_word(bytes, stop);
-    }
-    (start, stop)
-}
-
-// The numbers with a blank between them.
-fn write_numbers(text: &mut String, row: &[u32]) -> Result<(), AllocError>
-    ensures { OnOk result (Adds (string_bytes text.old) (numbers_text row.now) (string_bytes text.new)) }
-{
-    let [first, rest @ ..] = row else {
-        return Ok(());
-    };
-    write!(text, "{first}")?;
-    for number in rest {
-        write!(text, " {number}")?;
-    }
-    Ok(())
+    (Words { bytes, at: 0 }).nth(word).unwrap_or(Word {
+        start: bytes.len(),
+        text: &[],
+    })
 }
 
 // The row as text, which is one line.
 pub fn write(heap: Global, row: &[u32]) -> Result<String, Problem>
     ensures { IfOk result (λ text. string_bytes text ≡ numbers_text row.now ++ codes "\n") }
 {
-    let mut text = String::new(heap);
-    write_numbers(&mut text, row)?;
-    write!(text, "\n")?;
-    Ok(text)
+    Ok(format!(in heap; "{}\n", Numbers(row))?)
 }

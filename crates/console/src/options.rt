@@ -45,6 +45,7 @@ pub enum Request<T> {
     Show(T),
 }
 
+// By hand: thiserror's `#[from(alloc)]` wants a variant that holds the error, and one message for each variant, where `Unknown` has two.
 impl From<AllocError> for Mistake {
     fn from(_e: AllocError) -> Mistake {
         Mistake::Memory

@@ -4,6 +4,7 @@ ghost use Rattle.std.specs.Str.{bytes_eq};
 ghost use Rattle.console.specs.Names.{name_text, FoundIs};
 
 use crate::messages::Problem;
+use crate::names::Name;
 use crate::nearness::nearest;
 use crate::numbers;
 use std::alloc::{AllocError, Global};
@@ -38,10 +39,12 @@ pub fn find(names: &[String], count: usize, word: &str) -> Option<usize>
 pub fn name_of(heap: Global, names: &[String], position: usize) -> Result<String, AllocError>
     ensures { IfOk result (λ name. string_bytes name ≡ name_text (map string_bytes names.now) position) }
 {
-    match names.get(position) {
-        Some(name) => String::from_str(heap, name.as_str()),
-        None => format!(in heap; "{position}"),
-    }
+    let name = Name {
+        known: names,
+        letters: "",
+        number: position,
+    };
+    format!(in heap; "{name}")
 }
 
 // The names with commas between them, or the numbers where there are no names.

@@ -47,10 +47,10 @@ fn refuse(
     word: usize,
     expected: Expected,
 ) -> Result<Problem, AllocError> {
-    let (start, stop) = numbers::find_word(bytes, word);
+    let word = numbers::find_word(bytes, word);
     Ok(Problem::Row {
-        place: Place::after(bytes, start),
-        found: show_word(heap, &bytes[start..stop])?,
+        place: Place::after(bytes, word.start),
+        found: show_word(heap, word.text)?,
         expected,
     })
 }
@@ -103,10 +103,7 @@ fn read_row(heap: Global, bytes: &[u8]) -> Result<Drawing, Problem>
 pub fn view(row: &[u32]) -> Result<Automaton<'_>, Problem>
     ensures { MatchResult result (λ view. view.row.now ≡ row.now) (λ _. (a : automata.Automaton) → Reads row.now a → ⊥) }
 {
-    let Ok(automaton) = reader::read(row) else {
-        return Err(Problem::Unfit(Unfit::Other));
-    };
-    Ok(automaton)
+    reader::read(row).map_err(|_| Problem::Unfit(Unfit::Other))
 }
 
 // The row of the clockwork that a text is of, with the names of its clocks and positions.

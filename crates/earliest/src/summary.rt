@@ -1,105 +1,103 @@
 // A clockwork in words: its clocks, its positions and its steps, by their names and numbers.
+use console::names::Name;
 use drawing::Drawing;
-use rows::constraints::Conjunction;
+use rows::constraints::{Clock, Conjunction};
 use rows::edges::{Edge, Location};
 use rows::views::Automaton;
-use std::alloc::{AllocError, Global};
+use std::fmt;
 
-// The name of a clock or position, or a letter and its number where it has none.
-fn write_name(
-    text: &mut String,
-    names: &[String],
-    letter: char,
-    number: u32,
-) -> Result<(), AllocError> {
-    match names.get(number as usize) {
-        Some(name) => text.push_str(name.as_str()),
-        None => write!(text, "{letter}{number}"),
-    }
+// A clockwork, with the names of its clocks and positions.
+#[derive(Clone, Copy)]
+pub struct Summary<'a> {
+    pub automaton: Automaton<'a>,
+    pub names: &'a Drawing,
 }
 
-// The tests with commas between them, after a word.
-fn write_tests(
-    text: &mut String,
-    clocks: &[String],
-    word: &str,
-    tests: Conjunction<'_>,
-) -> Result<(), AllocError> {
-    for (place, test) in tests.into_iter().enumerate() {
-        text.push_str(if place == 0 { word } else { ", " })?;
-        write_name(text, clocks, 'x', test.clock.0)?;
-        write!(text, " {} {}", test.relation, test.bound)?;
-    }
-    Ok(())
-}
-
-fn write_clocks(text: &mut String, count: u32, clocks: &[String]) -> Result<(), AllocError> {
-    let plural = if count == 1 { "" } else { "s" };
-    write!(text, "{count} clock{plural}:")?;
-    for number in 0..count {
-        text.push_str(" ")?;
-        write_name(text, clocks, 'x', number)?;
-    }
-    text.push_str("\n")
-}
-
-fn write_positions(
-    text: &mut String,
-    automaton: Automaton<'_>,
-    names: &Drawing,
-) -> Result<(), AllocError> {
-    let count = automaton.locations();
-    let plural = if count == 1 { "" } else { "s" };
-    write!(text, "{count} position{plural}:\n")?;
-    for number in 0..count {
-        write!(text, "  {number} ")?;
-        write_name(text, names.positions.as_slice(), 'p', number)?;
-        if let Some(tests) = automaton.invariant(Location(number)) {
-            write_tests(text, names.clocks.as_slice(), ": ", tests)?;
+impl<'a> Summary<'a> {
+    fn clock(&self, clock: Clock) -> Name<'a> {
+        Name {
+            known: self.names.clocks.as_slice(),
+            letters: "x",
+            number: clock.0 as usize,
         }
-        text.push_str("\n")?;
     }
-    Ok(())
+
+    fn position(&self, location: Location) -> Name<'a> {
+        Name {
+            known: self.names.positions.as_slice(),
+            letters: "p",
+            number: location.0 as usize,
+        }
+    }
+
+    // The tests with commas between them, after a word.
+    fn write_tests<W: fmt::Write>(
+        &self,
+        f: &mut fmt::Formatter<W>,
+        word: &str,
+        tests: Conjunction<'_>,
+    ) -> fmt::Result {
+        for (place, test) in tests.into_iter().enumerate() {
+            f.write_str(if place == 0 { word } else { ", " })?;
+            let clock = self.clock(test.clock);
+            write!(f, "{clock} {} {}", test.relation, test.bound)?;
+        }
+        Ok(())
+    }
+
+    fn write_clocks<W: fmt::Write>(&self, f: &mut fmt::Formatter<W>) -> fmt::Result {
+        let count = self.automaton.clocks();
+        let plural = if count == 1 { "" } else { "s" };
+        write!(f, "{count} clock{plural}:")?;
+        for number in 0..count {
+            write!(f, " {}", self.clock(Clock(number)))?;
+        }
+        f.write_str("\n")
+    }
+
+    fn write_positions<W: fmt::Write>(&self, f: &mut fmt::Formatter<W>) -> fmt::Result {
+        let count = self.automaton.locations();
+        let plural = if count == 1 { "" } else { "s" };
+        write!(f, "{count} position{plural}:\n")?;
+        for (number, tests) in (0..count).zip(self.automaton.invariants()) {
+            write!(f, "  {number} {}", self.position(Location(number)))?;
+            self.write_tests(f, ": ", tests)?;
+            f.write_str("\n")?;
+        }
+        Ok(())
+    }
+
+    fn write_step<W: fmt::Write>(&self, f: &mut fmt::Formatter<W>, edge: Edge<'_>) -> fmt::Result {
+        let source = self.position(edge.source);
+        let target = self.position(edge.target);
+        write!(f, "{source} -> {target}")?;
+        self.write_tests(f, " when ", edge.guard)?;
+        for (place, clock) in edge.resets.iter().enumerate() {
+            f.write_str(if place == 0 { " reset " } else { " " })?;
+            write!(f, "{}", self.clock(Clock(*clock)))?;
+        }
+        f.write_str("\n")
+    }
+
+    fn write_steps<W: fmt::Write>(&self, f: &mut fmt::Formatter<W>) -> fmt::Result {
+        let count = self.automaton.edges().count();
+        match count {
+            0 => return f.write_str("no steps\n"),
+            1 => f.write_str("1 step:\n")?,
+            _ => write!(f, "{count} steps:\n")?,
+        }
+        for (number, edge) in self.automaton.edges().enumerate() {
+            write!(f, "  {number} ")?;
+            self.write_step(f, edge)?;
+        }
+        Ok(())
+    }
 }
 
-fn write_step(text: &mut String, names: &Drawing, edge: Edge<'_>) -> Result<(), AllocError> {
-    write_name(text, names.positions.as_slice(), 'p', edge.source.0)?;
-    text.push_str(" -> ")?;
-    write_name(text, names.positions.as_slice(), 'p', edge.target.0)?;
-    write_tests(text, names.clocks.as_slice(), " when ", edge.guard)?;
-    for (place, clock) in edge.resets.iter().enumerate() {
-        text.push_str(if place == 0 { " reset " } else { " " })?;
-        write_name(text, names.clocks.as_slice(), 'x', *clock)?;
+impl<'a> fmt::Display for Summary<'a> {
+    fn fmt<W: fmt::Write>(&self, f: &mut fmt::Formatter<W>) -> fmt::Result {
+        self.write_clocks(f)?;
+        self.write_positions(f)?;
+        self.write_steps(f)
     }
-    text.push_str("\n")
-}
-
-fn write_steps(
-    text: &mut String,
-    automaton: Automaton<'_>,
-    names: &Drawing,
-) -> Result<(), AllocError> {
-    let count = automaton.edges().count();
-    match count {
-        0 => return text.push_str("no steps\n"),
-        1 => text.push_str("1 step:\n")?,
-        _ => write!(text, "{count} steps:\n")?,
-    }
-    for (number, edge) in automaton.edges().enumerate() {
-        write!(text, "  {number} ")?;
-        write_step(text, names, edge)?;
-    }
-    Ok(())
-}
-
-pub fn write(
-    heap: Global,
-    automaton: Automaton<'_>,
-    names: &Drawing,
-) -> Result<String, AllocError> {
-    let mut text = String::new(heap);
-    write_clocks(&mut text, automaton.clocks(), names.clocks.as_slice())?;
-    write_positions(&mut text, automaton, names)?;
-    write_steps(&mut text, automaton, names)?;
-    Ok(text)
 }

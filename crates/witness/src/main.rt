@@ -10,6 +10,7 @@ use crate::troubles::{Complaint, Trouble};
 use accounts::names::Names;
 use console::budget::kinds_that_fit;
 use console::messages::Problem;
+use console::names::Name;
 use console::options::{BadCall, Request};
 use console::{input, positions, texts};
 use drawing::Drawing;
@@ -50,12 +51,14 @@ fn names(
     letters: &str,
     count: u32,
 ) -> Result<Vec<String>, AllocError> {
-    (0..count)
+    (0..count as usize)
         .map(|number| -> Result<String, AllocError> {
-            match known.get(number as usize) {
-                Some(name) => name.clone(),
-                None => format!(in heap; "{letters}{number}"),
-            }
+            let name = Name {
+                known,
+                letters,
+                number,
+            };
+            format!(in heap; "{name}")
         })
         .try_collect(heap)
 }
@@ -93,7 +96,8 @@ fn carry_out(rt: &HostRuntime, options: &Options) -> Result<(), Trouble> {
     Ok(())
 }
 
-// Where something is wrong, the reason is told.
+// Where something is wrong, the reason is told. Earliest has a twin, with other words, options and work: a shared one would take all three
+// from its caller, the last two as closures, and be no plainer.
 fn main(rt: HostRuntime) -> io::Result<ExitCode> {
     let words = match env::args(&rt) {
         Ok(words) => words,

@@ -35,6 +35,7 @@ impl Options {
 
 // The words of the call, of which the first is the program's own name.
 pub fn parse(heap: Global, mut words: Args) -> Result<Request<Options>, Mistake> {
+    // Both are only noted, and no value is beside them: a mistake in a later word is told first, and the version before the help.
     let mut help = false;
     let mut version = false;
     let mut form = Form::Drawing;

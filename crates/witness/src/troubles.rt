@@ -29,6 +29,7 @@ impl From<Problem> for Trouble {
     }
 }
 
+// By hand: thiserror's `#[from(alloc)]` wants a variant that holds the error, and `Problem` has one for it already.
 impl From<AllocError> for Trouble {
     fn from(_e: AllocError) -> Trouble {
         Trouble::Problem(Problem::Memory)
