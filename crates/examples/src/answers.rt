@@ -1,4 +1,5 @@
-// Answers as text.
+// Answers as text. Not console's `Answer` nor the `Told` of sixtieths: the words for what is no answer are others in each, and what
+// each program prints stays as it is.
 use clocks::answers::Asked;
 use std::fmt;
 use std::num::ParseIntError;
@@ -36,16 +37,13 @@ impl FromStr for Written {
     type Err = NoAnswer;
 
     fn from_str(text: &str) -> Result<Written, NoAnswer> {
-        if text == "never" {
-            return Ok(Written(Asked::Never));
-        }
-        if text == "many" {
-            return Ok(Written(Asked::Many));
-        }
-        if let Some(time) = text.strip_prefix("at ") {
-            return Ok(Written(Asked::At(time.parse()?)));
-        }
-        let time = text.strip_prefix("after ").ok_or(NoAnswer)?;
-        Ok(Written(Asked::After(time.parse()?)))
+        let asked = match text.split_once(' ') {
+            Some(("at", time)) => Asked::At(time.parse()?),
+            Some(("after", time)) => Asked::After(time.parse()?),
+            None if text == "never" => Asked::Never,
+            None if text == "many" => Asked::Many,
+            _ => return Err(NoAnswer),
+        };
+        Ok(Written(asked))
     }
 }

@@ -4,6 +4,7 @@ use crate::report::{Report, Tester};
 use clocks::answers::{Asked, ask, look_up};
 use search::explores::explore;
 use std::alloc::{AllocError, AllocFailed, Global};
+use std::mem;
 use std::num::ParseIntError;
 
 #[derive(Drop)]
@@ -23,37 +24,29 @@ impl Case {
     }
 }
 
-// Why the cases cannot be read. Lines count from 1.
-#[derive(Clone, Copy)]
-pub enum Mistake {
-    Memory,
-    Line(usize),
-}
-
-impl<T: Drop> From<AllocFailed<T>> for Mistake {
-    fn from(_e: AllocFailed<T>) -> Mistake {
-        Mistake::Memory
-    }
-}
-
 // Why a line cannot be read.
 #[derive(Clone, Copy)]
-enum Flaw {
+pub enum Flaw {
     Memory,
     NoPart,
 }
 
-impl Flaw {
-    fn at(self, line: usize) -> Mistake {
-        match self {
-            Flaw::Memory => Mistake::Memory,
-            Flaw::NoPart => Mistake::Line(line),
-        }
+// Why the cases cannot be read. Lines count from 1.
+#[derive(Clone, Copy)]
+pub struct Mistake {
+    pub line: usize,
+    pub flaw: Flaw,
+}
+
+// By hand: thiserror's `#[from(alloc)]` wants a variant that holds the error, and nothing is told of it but that there was no memory.
+impl From<AllocError> for Flaw {
+    fn from(_e: AllocError) -> Flaw {
+        Flaw::Memory
     }
 }
 
-impl From<AllocError> for Flaw {
-    fn from(_e: AllocError) -> Flaw {
+impl<T: Drop> From<AllocFailed<T>> for Flaw {
+    fn from(_e: AllocFailed<T>) -> Flaw {
         Flaw::Memory
     }
 }
@@ -82,37 +75,48 @@ fn parse_answers(heap: Global, text: &str) -> Result<Vec<Asked>, Flaw> {
         .try_collect(heap)
 }
 
-// Reads a line into the case; whether the case is whole with it.
-fn read_line(heap: Global, case: &mut Case, text: &str) -> Result<bool, Flaw> {
-    if let Some(words) = text.strip_prefix("rows: ") {
-        case.row = parse_row(heap, words)?;
-        return Ok(false);
-    }
-    if let Some(word) = text.strip_prefix("kinds: ") {
-        case.kinds = word.parse()?;
-        return Ok(false);
-    }
-    let parts = text.strip_prefix("answers: ").ok_or(Flaw::NoPart)?;
-    case.answers = parse_answers(heap, parts)?;
-    Ok(true)
+// The cases that were read, and the one in the making.
+#[derive(Drop)]
+struct Reader {
+    heap: Global,
+    cases: Vec<Case>,
+    case: Case,
 }
 
-// Each case is three lines: `rows: ..`, `kinds: ..` and `answers: .. | ..`; a line that begins with `#` is a comment.
-pub fn parse_all(heap: Global, text: &str) -> Result<Vec<Case>, Mistake> {
-    let mut cases = Vec::new(heap);
-    let mut case = Case::new(heap);
-    for (place, text) in text.lines().enumerate() {
+impl Reader {
+    // Each case is three lines: `rows: ..`, `kinds: ..` and `answers: .. | ..`; a line that begins with `#` is a comment.
+    fn take_line(&mut self, text: &str) -> Result<(), Flaw> {
         if text.starts_with('#') {
-            continue;
+            return Ok(());
         }
-        let line = place.saturating_add(1);
-        let whole = read_line(heap, &mut case, text).map_err(|flaw| flaw.at(line))?;
-        if whole {
-            cases.push(case)?;
-            case = Case::new(heap);
+        if let Some(words) = text.strip_prefix("rows: ") {
+            self.case.row = parse_row(self.heap, words)?;
+            return Ok(());
         }
+        if let Some(word) = text.strip_prefix("kinds: ") {
+            self.case.kinds = word.parse()?;
+            return Ok(());
+        }
+        let parts = text.strip_prefix("answers: ").ok_or(Flaw::NoPart)?;
+        self.case.answers = parse_answers(self.heap, parts)?;
+        let whole = mem::replace(&mut self.case, Case::new(self.heap));
+        Ok(self.cases.push(whole)?)
     }
-    Ok(cases)
+}
+
+pub fn parse_all(heap: Global, text: &str) -> Result<Vec<Case>, Mistake> {
+    let mut reader = Reader {
+        heap,
+        cases: Vec::new(heap),
+        case: Case::new(heap),
+    };
+    for (place, text) in text.lines().enumerate() {
+        let line = place.saturating_add(1);
+        reader
+            .take_line(text)
+            .map_err(|flaw| Mistake { line, flaw })?;
+    }
+    Ok(reader.cases)
 }
 
 // Every position, with what is said of it when it is asked about.
@@ -142,7 +146,7 @@ fn check_answers(tester: &mut Tester, case: &Case) -> Result<(), AllocError> {
     expect_each(report, "looked up", case, |position| {
         look_up(explored, position)
     })?;
-    for position in 0..case.answers.len() {
+    for (position, _) in case.answers.iter().enumerate() {
         let got = ask(row, position, kinds.saturating_sub(1), work.as_mut_slice());
         report.expect("one kind less", position, Asked::Many, got)?;
     }

@@ -1,35 +1,24 @@
 // The edges of a call: too few words, positions that are not there, words that hold anything, rows that are no clockwork's.
+ghost use Rattle.std.specs.Prelude.{◌≡◌, length};
+
 use crate::cases::{Case, expect_each};
 use crate::report::Tester;
-use crate::words::{Garbage, enough, fill};
+use crate::words::enough;
 use clocks::answers::{Asked, ask, look_up};
 use search::explores::explore;
-use std::alloc::{AllocError, Global};
+use std::alloc::{AllocError, AllocFailed, Global};
 
-// What is done to a row so that it is no clockwork's. Values, for a loop over all: closures of several types stand in no array.
-#[derive(Clone, Copy)]
-enum Damage {
-    Empty,
-    Cut,
-    Longer,
-    // the largest number at a place
-    Count(usize),
+// Two words in turn.
+fn stripes(place: usize) -> u32 {
+    if place % 2 == 0 { 0x5555_5555 } else { 1 }
 }
 
-impl Damage {
-    fn done_to(self, heap: Global, row: &[u32]) -> Result<Vec<u32>, AllocError> {
-        let mut broken = row.to_vec(heap)?;
-        match self {
-            Damage::Empty => broken.clear(),
-            Damage::Cut => broken.truncate(row.len().saturating_sub(1)),
-            Damage::Longer => broken.push(0)?,
-            Damage::Count(place) => {
-                if let Some(word) = broken.get_mut(place) {
-                    *word = u32::MAX;
-                }
-            }
-        }
-        Ok(broken)
+fn fill<F: Fn(usize) -> u32>(work: &mut [u32], word: F)
+    requires { F.IsAlwaysCallable word }
+    ensures { length work.new ≡ length work.old }
+{
+    for (place, at) in work.iter_mut().enumerate() {
+        *at = word(place);
     }
 }
 
@@ -71,28 +60,34 @@ pub fn check_places(tester: &mut Tester, case: &Case) -> Result<(), AllocError> 
     Ok(())
 }
 
+// Words that were filled before.
+fn check_filled<F: Fn(usize) -> u32>(
+    tester: &mut Tester,
+    case: &Case,
+    word: F,
+) -> Result<(), AllocError>
+    requires { F.IsAlwaysCallable word }
+{
+    let Tester { report, work } = tester;
+    fill(work.as_mut_slice(), word);
+    let explored = explore(case.row.as_slice(), case.kinds, work.as_mut_slice());
+    expect_each(report, "words filled before", case, |position| {
+        look_up(explored, position)
+    })
+}
+
 // Whatever the words hold, the answers are the same.
 pub fn check_garbage(tester: &mut Tester, case: &Case) -> Result<(), AllocError> {
-    let Tester { report, work } = tester;
-    for garbage in [
-        Garbage::Zeros,
-        Garbage::Ones,
-        Garbage::Places,
-        Garbage::Stripes,
-    ] {
-        fill(work.as_mut_slice(), garbage);
-        let explored = explore(case.row.as_slice(), case.kinds, work.as_mut_slice());
-        expect_each(report, "words filled before", case, |position| {
-            look_up(explored, position)
-        })?;
-    }
-    Ok(())
+    check_filled(tester, case, |_| 0)?;
+    check_filled(tester, case, |_| u32::MAX)?;
+    check_filled(tester, case, |place| (place & 0xffff_ffff) as u32)?;
+    check_filled(tester, case, stripes)
 }
 
 // The same call again, on the words that the first one left.
 pub fn check_twice(tester: &mut Tester, case: &Case) -> Result<(), AllocError> {
     for (position, expected) in case.answers.iter().enumerate() {
-        fill(tester.work.as_mut_slice(), Garbage::Stripes);
+        fill(tester.work.as_mut_slice(), stripes);
         for what in ["first call", "second call"] {
             let got = tester.ask(case.row.as_slice(), position, case.kinds);
             tester.report.expect(what, position, *expected, got)?;
@@ -101,25 +96,57 @@ pub fn check_twice(tester: &mut Tester, case: &Case) -> Result<(), AllocError> {
     Ok(())
 }
 
+// A row to which something is done, so that it is no clockwork's.
+fn broken<F: FnOnce(&mut Vec<u32>) -> Result<(), AllocFailed<u32>>>(
+    heap: Global,
+    row: &[u32],
+    damage: F,
+) -> Result<Vec<u32>, AllocError>
+    requires { F.IsAlwaysCallable damage }
+{
+    let mut row = row.to_vec(heap)?;
+    damage(&mut row)?;
+    Ok(row)
+}
+
+fn check_damage<F: FnOnce(&mut Vec<u32>) -> Result<(), AllocFailed<u32>>>(
+    heap: Global,
+    tester: &mut Tester,
+    case: &Case,
+    damage: F,
+) -> Result<(), AllocError>
+    requires { F.IsAlwaysCallable damage }
+{
+    let Ok(row) = broken(heap, case.row.as_slice(), damage) else {
+        return tester.report.fault("not enough memory");
+    };
+    for position in [0, usize::MAX] {
+        let got = tester.ask(row.as_slice(), position, case.kinds);
+        tester
+            .report
+            .expect("a broken row", position, Asked::NoWork, got)?;
+    }
+    Ok(())
+}
+
 // Broken rows: empty, a word less, a word more, and the largest number for how many clocks, positions or tests there are.
 pub fn check_broken(heap: Global, tester: &mut Tester, case: &Case) -> Result<(), AllocError> {
-    for damage in [
-        Damage::Empty,
-        Damage::Cut,
-        Damage::Longer,
-        Damage::Count(0),
-        Damage::Count(1),
-        Damage::Count(2),
-    ] {
-        let Ok(row) = damage.done_to(heap, case.row.as_slice()) else {
-            return tester.report.fault("not enough memory");
-        };
-        for position in [0, usize::MAX] {
-            let got = tester.ask(row.as_slice(), position, case.kinds);
-            tester
-                .report
-                .expect("a broken row", position, Asked::NoWork, got)?;
-        }
+    check_damage(heap, tester, case, |row| {
+        row.clear();
+        Ok(())
+    })?;
+    check_damage(heap, tester, case, |row| {
+        row.pop();
+        Ok(())
+    })?;
+    check_damage(heap, tester, case, |row| row.push(0))?;
+    for place in 0..3 {
+        check_damage(heap, tester, case, |row| {
+            if let Some(word) = row.get_mut(place) {
+                *word = u32::MAX;
+            }
+            Ok(())
+        })?;
     }
     Ok(())
 }

@@ -1,7 +1,7 @@
 // Asks about clockworks whose answers are known, and prints a table of the answers, with every difference.
 #![tactic(auto)]
 
-use crate::cases::{Case, Mistake};
+use crate::cases::{Case, Flaw, Mistake};
 use crate::report::{Report, Tally, Tester};
 use crate::words::{KINDS, WORDS};
 use anyhow::anyhow;
@@ -94,10 +94,20 @@ fn check_rows(heap: Global, tester: &mut Tester, text: &str) -> Result<(), Alloc
             check_cases(tester, cases.as_slice())?;
             check_limits(heap, tester, cases.as_slice())
         }
-        Err(Mistake::Memory) => tester
+        Err(
+            Mistake {
+                flaw: Flaw::Memory,
+                ..
+            },
+        ) => tester
             .report
             .fault("there is not enough memory for the cases"),
-        Err(Mistake::Line(line)) => {
+        Err(
+            Mistake {
+                flaw: Flaw::NoPart,
+                line,
+            },
+        ) => {
             write!(tester.report.text, "cases.txt, line {line}:\n")?;
             tester.report.fault("no part of a case")
         }
@@ -113,7 +123,7 @@ fn check_all(rt: &HostRuntime, tester: &mut Tester) -> anyhow::Result<()> {
     check_folder(rt, tester, "errors")?;
     let text = files::read(rt, ".", "cases.txt")?;
     check_rows(rt.alloc(), tester, text.as_str())?;
-    tester.report.sum_up("in all", Tally::new())?;
+    tester.report.sum_up("in all", Tally::default())?;
     Ok(())
 }
 

@@ -7,7 +7,7 @@ use clocks::answers::{Asked, ask};
 use std::alloc::{AllocError, Global};
 use std::fmt;
 
-#[derive(Clone, Copy)]
+#[derive(Clone, Copy, Default)]
 pub struct Tally {
     pub tried: u64,
     pub differences: u64,
@@ -20,15 +20,6 @@ pub struct Report {
 }
 
 impl Tally {
-    pub fn new() -> Tally
-        ensures { (result.tried ≡ 0) × (result.differences ≡ 0) }
-    {
-        Tally {
-            tried: 0,
-            differences: 0,
-        }
-    }
-
     // With one try more, that came out as expected or not. Numbers past the largest stay there.
     pub fn with(self, as_expected: bool) -> Tally
         ensures tried { result.tried ≡ min (self.tried + 1) (2 ^ 64 - 1) }
@@ -67,7 +58,7 @@ impl Report {
     pub fn new(heap: Global) -> Report {
         Report {
             text: String::new(heap),
-            tally: Tally::new(),
+            tally: Tally::default(),
         }
     }
 
