@@ -3,3 +3,4 @@ pub mod Judging
 pub mod Following
 pub mod Counting
 pub mod Spaces
+pub mod Opinions

@@ -1,11 +1,11 @@
 // Counts of what was compared.
-ghost use Rattle.std.specs.Prelude.{◌≡◌, slice_set, slice_index_or};
+ghost use Rattle.std.specs.Prelude.{◌≡◌, ◌+◌, ◌-◌, ◌^◌, min, slice_set, slice_index_or};
 ghost use Rattle.sixtieths.specs.Counting.{one_added, tallied, place_of};
 ghost use Rattle.sixtieths.specs.declared.counts.Tally.{Tally};
 
 use crate::comparison::{Finding, Kind};
 
-// The positions with answers of one kind, by what the grid says of them.
+// The positions with answers of one kind, by what the grid says of them. No array by finding: each has a name where it is told.
 #[derive(Clone, Copy, Default)]
 pub struct Tally {
     pub exact: u32,
@@ -36,7 +36,9 @@ impl Tally {
         }
     }
 
-    pub fn positions(&self) -> u32 {
+    pub fn positions(&self) -> u32
+        ensures { result ≡ min (self.now.exact + self.now.later + self.now.missing + self.now.wrong) (2 ^ 32 - 1) }
+    {
         self.exact
             .saturating_add(self.later)
             .saturating_add(self.missing)
@@ -61,13 +63,15 @@ impl Counts {
     }
 
     pub fn note_followed(&mut self)
-        ensures { self.new.followed ≡ one_added self.old.followed }
+        ensures followed { self.new.followed ≡ one_added self.old.followed }
+        ensures rest { (self.new.tallies ≡ self.old.tallies) × (self.new.differences ≡ self.old.differences) }
     {
         self.followed = self.followed.saturating_add(1);
     }
 
     pub fn note_difference(&mut self)
-        ensures { self.new.differences ≡ one_added self.old.differences }
+        ensures differences { self.new.differences ≡ one_added self.old.differences }
+        ensures rest { (self.new.tallies ≡ self.old.tallies) × (self.new.followed ≡ self.old.followed) }
     {
         self.differences = self.differences.saturating_add(1);
     }

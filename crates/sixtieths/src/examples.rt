@@ -3,7 +3,7 @@ use crate::counts::Counts;
 use crate::grid_search::MOST_STATES;
 use crate::opinions::Opinion;
 use crate::problems::{fail, opinions_on};
-use crate::report;
+use crate::report::Reporter;
 use drawing::Drawing;
 use std::{fs, io};
 
@@ -33,41 +33,39 @@ fn read_drawing(rt: &HostRuntime, file: &str) -> io::Result<Drawing> {
 }
 
 fn print_all(
-    rt: &HostRuntime,
-    counts: &mut Counts,
+    reporter: &mut Reporter,
     file: &str,
     drawing: &Drawing,
     all: &[Opinion],
 ) -> io::Result<()> {
-    for (number, opinion) in all.iter().enumerate() {
-        if let Some(position) = drawing.positions.get(number) {
-            report::print_opinion(rt, file, position.as_str(), opinion)?;
-        }
-        report::note(rt, counts, drawing.row.as_slice(), number, opinion)?;
+    for (number, (opinion, position)) in all.iter().zip(&drawing.positions).enumerate() {
+        reporter.print_opinion(file, position.as_str(), opinion)?;
+        reporter.note(drawing.row.as_slice(), number, opinion)?;
     }
     Ok(())
 }
 
-fn compare_drawing(
-    rt: &HostRuntime,
-    counts: &mut Counts,
-    work: &mut [u32],
-    file: &str,
-) -> io::Result<()> {
-    let drawing = read_drawing(rt, file)?;
-    let Some(all) = opinions_on(rt, drawing.row.as_slice(), work)? else {
-        return println!(rt;
+fn compare_drawing(reporter: &mut Reporter, file: &str) -> io::Result<()> {
+    let drawing = read_drawing(reporter.rt, file)?;
+    let Some(all) = opinions_on(
+        reporter.rt,
+        drawing.row.as_slice(),
+        reporter.work.as_mut_slice(),
+    )?
+    else {
+        return println!(reporter.rt;
             "{file}: skipped, since it has more than {MOST_STATES} states in sixtieths"
         );
     };
-    print_all(rt, counts, file, &drawing, all.as_slice())
+    print_all(reporter, file, &drawing, all.as_slice())
 }
 
-// Compares all examples, and prints what comes of it.
-pub fn compare_examples(rt: &HostRuntime, work: &mut [u32]) -> io::Result<Counts> {
-    let mut counts = Counts::default();
+// Compares all examples, and prints what comes of it and what was counted.
+pub fn compare_examples(rt: &HostRuntime) -> io::Result<Counts> {
+    let mut reporter = Reporter::new(rt)?;
     for file in FILES {
-        compare_drawing(rt, &mut counts, work, file)?;
+        compare_drawing(&mut reporter, file)?;
     }
-    Ok(counts)
+    reporter.print_counts()?;
+    Ok(reporter.counts)
 }

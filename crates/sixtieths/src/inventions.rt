@@ -7,7 +7,8 @@ const CLOCKS: u32 = 2;
 // Bounds are from 0 to 4.
 const BOUNDS: u32 = 5;
 
-// The relations of an invariant are the first two, those of a guard all four.
+// The relations of an invariant are the first two, those of a guard all four. By their numbers: they are words of a row, of which any
+// is drawn.
 const UPPER_RELATIONS: u32 = 2;
 
 const RELATIONS: u32 = 4;

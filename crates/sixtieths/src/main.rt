@@ -2,7 +2,6 @@
 // for automata made at random, and what is found there is held against the answers.
 #![tactic(auto)]
 
-use crate::opinions::WORK;
 use crate::trials::{AUTOMATA, SEED};
 use std::io;
 
@@ -22,13 +21,10 @@ mod visits;
 mod ways;
 
 fn main(rt: HostRuntime) -> io::Result<()> {
-    let mut work = vec![in rt.alloc(); 0u32; WORK]?;
     println!(rt; "Worked examples:")?;
-    let examples = examples::compare_examples(&rt, work.as_mut_slice())?;
-    report::print_counts(&rt, &examples)?;
+    let examples = examples::compare_examples(&rt)?;
     println!(rt; "\n{AUTOMATA} automata made at random from the seed {SEED}:")?;
-    let inventions = trials::compare_inventions(&rt, work.as_mut_slice())?;
-    report::print_counts(&rt, &inventions)?;
+    let inventions = trials::compare_inventions(&rt)?;
     if examples.differences > 0 || inventions.differences > 0 {
         return Err(io::Error::from(io::ErrorKind::Other));
     }

@@ -1,6 +1,11 @@
 // The second opinion on an automaton: for each position the answer, and what the grid says of it.
+ghost use Rattle.std.specs.Prelude.{◌≡◌, option_map, IfOk, All};
+ghost use Rattle.sixtieths.specs.Opinions.{differing};
+ghost use Rattle.sixtieths.specs.Judging.{Judged, kind_is};
+
 use crate::comparison::{Finding, Kind, judge, kind_of};
 use crate::grid_search::{Space, search};
+use crate::texts::{Found, Told};
 use crate::trails::{Astray, follow, moves_to};
 use crate::visits::{Arrival, Fault, Visits};
 use crate::ways::find_ways;
@@ -9,6 +14,7 @@ use rows::limits::MOST_WORDS;
 use rows::views::Automaton;
 use search::explores::{WORDS, WORDS_FOR_A_KIND, WORDS_FOR_A_WORD, explore};
 use std::alloc::Global;
+use std::fmt;
 
 // As many kinds of states are allowed, which is more than any automaton has that is asked about here.
 pub const KINDS: u32 = 16_384;
@@ -32,7 +38,11 @@ pub struct Opinion {
 }
 
 impl Opinion {
-    fn new(asked: Asked, has_way: bool, first: Option<First>) -> Self {
+    fn new(asked: Asked, has_way: bool, first: Option<First>) -> Self
+        ensures given { (result.asked ≡ asked) × (result.first ≡ first) }
+        ensures kind { result.kind ≡ kind_is asked has_way }
+        ensures finding { Judged asked (option_map (λ f. f.time) first) result.finding }
+    {
         Opinion {
             asked,
             kind: kind_of(asked, has_way),
@@ -42,9 +52,19 @@ impl Opinion {
     }
 
     // Whether the answer and the grid contradict each other, or the grid's run is none.
-    pub fn differs(&self) -> bool {
+    pub fn differs(&self) -> bool
+        ensures { result ≡ differing self.now }
+    {
         self.finding == Finding::Contradiction
             || self.first.is_some_and(|first| first.followed.is_err())
+    }
+}
+
+impl fmt::Display for Opinion {
+    fn fmt<W: fmt::Write>(&self, f: &mut fmt::Formatter<W>) -> fmt::Result {
+        let told = Told(self.asked);
+        let found = Found(self.first.map(|first| first.time));
+        write!(f, "{told}; in sixtieths {found}")
     }
 }
 

@@ -1,10 +1,11 @@
-// Answers, times and rows as text.
+// Answers and times as text.
 use clocks::answers::Asked;
 use grids::grid::PARTS;
 use replay::fractions::Fraction;
 use std::fmt;
 
-// An answer; the program `examples` has shorter words for those that are none.
+// An answer. Not console's `Answer` nor the `Written` of examples: the words for what is no answer are others in each, and what each
+// program prints stays as it is.
 #[derive(Clone, Copy)]
 pub struct Told(pub Asked);
 
@@ -14,9 +15,6 @@ pub struct Time(pub u64);
 
 #[derive(Clone, Copy)]
 pub struct Found(pub Option<u64>);
-
-#[derive(Clone, Copy)]
-pub struct Numbers<'a>(pub &'a [u32]);
 
 impl fmt::Display for Told {
     fn fmt<W: fmt::Write>(&self, f: &mut fmt::Formatter<W>) -> fmt::Result {
@@ -49,16 +47,5 @@ impl fmt::Display for Found {
             Some(parts) => write!(f, "first at {}", Time(parts)),
             None => f.write_str("never"),
         }
-    }
-}
-
-// Numbers with blanks between them.
-impl<'a> fmt::Display for Numbers<'a> {
-    fn fmt<W: fmt::Write>(&self, f: &mut fmt::Formatter<W>) -> fmt::Result {
-        for (place, number) in self.0.iter().enumerate() {
-            f.write_str(if place == 0 { "" } else { " " })?;
-            write!(f, "{number}")?;
-        }
-        Ok(())
     }
 }

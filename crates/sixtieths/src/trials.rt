@@ -4,35 +4,33 @@ use crate::generator::Generator;
 use crate::grid_search::MOST_STATES;
 use crate::inventions::invent;
 use crate::problems::opinions_on;
-use crate::report;
+use crate::report::Reporter;
 use std::io;
 
 pub const SEED: u64 = 60;
 
 pub const AUTOMATA: u32 = 300;
 
-fn compare_row(
-    rt: &HostRuntime,
-    counts: &mut Counts,
-    work: &mut [u32],
-    row: &[u32],
-) -> io::Result<()> {
-    let Some(all) = opinions_on(rt, row, work)? else {
-        return println!(rt; "skipped, since it has more than {MOST_STATES} states in sixtieths");
+fn compare_row(reporter: &mut Reporter, row: &[u32]) -> io::Result<()> {
+    let Some(all) = opinions_on(reporter.rt, row, reporter.work.as_mut_slice())? else {
+        return println!(reporter.rt;
+            "skipped, since it has more than {MOST_STATES} states in sixtieths"
+        );
     };
     for (position, opinion) in all.iter().enumerate() {
-        report::note(rt, counts, row, position, opinion)?;
+        reporter.note(row, position, opinion)?;
     }
     Ok(())
 }
 
-// Compares all that the seed gives.
-pub fn compare_inventions(rt: &HostRuntime, work: &mut [u32]) -> io::Result<Counts> {
-    let mut counts = Counts::default();
+// Compares all that the seed gives, and prints what was counted.
+pub fn compare_inventions(rt: &HostRuntime) -> io::Result<Counts> {
+    let mut reporter = Reporter::new(rt)?;
     let mut numbers = Generator::new(SEED);
     for _ in 0..AUTOMATA {
         let row = invent(rt.alloc(), &mut numbers)?;
-        compare_row(rt, &mut counts, work, row.as_slice())?;
+        compare_row(&mut reporter, row.as_slice())?;
     }
-    Ok(counts)
+    reporter.print_counts()?;
+    Ok(reporter.counts)
 }
