@@ -7,6 +7,7 @@ pub mod Parts
 pub mod Values
 pub mod EdgeParts
 pub mod Viewed
+pub mod Placed
 pub mod Views
 pub mod Standing
 pub mod Reading

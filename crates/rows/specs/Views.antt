@@ -39,8 +39,8 @@ InvariantIs o (Some c) = (o ≡ option.some (conjunction_value c)) × (c.words.n
 -- the words from there on are the writing of the invariants, with others behind them
 pub record InvariantsAre (css : List (List automata.Constraint)) (v : Invariants) : Type 0 where
   pub rest : List ℕ
-  pub words : drop v.at v.row.now ≡ write_invariants css ++ rest
-  pub left : v.left ≡ length css
+  pub words : drop v.placed.at v.placed.row.now ≡ write_invariants css ++ rest
+  pub left : v.placed.left ≡ length css
 
 -- the first of the invariants, and the others behind it
 abbrev pub NextInvariant : List (List automata.Constraint) → Option Conjunction → Invariants → Type 0
@@ -51,7 +51,7 @@ NextInvariant (cs ∷ css) (Some c) t = (c.words.now ≡ write_constraints cs) �
 
 -- the words from there on are the writing of the edges
 abbrev pub EdgesAre : List automata.Edge → Edges → Type 0
-EdgesAre es v = drop v.at v.row.now ≡ write_edges es
+EdgesAre es v = drop v.placed.at v.placed.row.now ≡ write_edges es
 
 -- the first of the edges, and the others behind it
 abbrev pub NextEdge : List automata.Edge → Option Edge → Edges → Type 0

@@ -7,6 +7,7 @@ mod counted;
 pub mod edges;
 pub mod limits;
 pub mod numbers;
+pub mod placed;
 pub mod reader;
 pub mod refusals;
 pub mod views;

@@ -5,8 +5,9 @@ ghost use Rattle.automata.specs.Automata.{nth};
 ghost use Rattle.rows.specs.Viewed.{value_of, Viewed};
 ghost use Rattle.std.specs.Iterator.{at_most};
 
-use crate::constraints::{Conjunction, conjunction_at};
-use crate::edges::{Edge, Location, edge_at};
+use crate::constraints::Conjunction;
+use crate::edges::{Edge, Location};
+use crate::placed::{PlacedEdges, PlacedInvariants};
 
 #[derive(Clone, Copy)]
 pub struct Automaton<'a> {
@@ -21,19 +22,18 @@ pub struct Automaton<'a> {
 // The invariants from a word of the row on, so many.
 #[derive(Clone, Copy)]
 pub struct Invariants<'a> {
-    row: &'a [u32],
-    at: usize,
-    left: u32,
+    placed: PlacedInvariants<'a>,
 }
 
 // The edges from a word of the row on.
 #[derive(Clone, Copy)]
 pub struct Edges<'a> {
-    row: &'a [u32],
-    at: usize,
+    placed: PlacedEdges<'a>,
 }
 
 impl<'a> Automaton<'a> {
+    ghost use Rattle.automata.specs.Rows.{write_edges};
+    ghost use Rattle.rows.specs.Placed.{PlacedInvariantsAre, PlacedEdgesAre};
     ghost use Rattle.rows.specs.Views.{Made, automaton_value, InvariantIs, InvariantsAre, EdgesAre};
 
     pub(crate) fn new(row: &'a [u32], clocks: u32, locations: u32, edges: usize) -> Self
@@ -86,9 +86,7 @@ impl<'a> Automaton<'a> {
         ensures { InvariantsAre (automaton_value self.now).invariants result }
     {
         Invariants {
-            row: self.row,
-            at: 2,
-            left: self.locations,
+            placed: self.placed_invariants(),
         }
     }
 
@@ -96,6 +94,26 @@ impl<'a> Automaton<'a> {
         ensures { EdgesAre (automaton_value self.now).edges result }
     {
         Edges {
+            placed: self.placed_edges(),
+        }
+    }
+
+    // The invariants of all locations, each with the word at which it begins.
+    pub fn placed_invariants(&self) -> PlacedInvariants<'a>
+        ensures { PlacedInvariantsAre self.now.row.now (automaton_value self.now).invariants (write_edges (automaton_value self.now).edges) result }
+    {
+        PlacedInvariants {
+            row: self.row,
+            at: 2,
+            left: self.locations,
+        }
+    }
+
+    // The edges, each with the word at which it begins.
+    pub fn placed_edges(&self) -> PlacedEdges<'a>
+        ensures { PlacedEdgesAre self.now.row.now (automaton_value self.now).edges result }
+    {
+        PlacedEdges {
             row: self.row,
             at: self.edges,
         }
@@ -109,13 +127,10 @@ impl<'a> Iterator for Invariants<'a> {
 
     ghost next_gives = { λ s r t. ((css : List (List automata.Constraint)) → InvariantsAre css s → NextInvariant css r t) };
 
-    ghost remaining = { λ s. at_most s.left };
+    ghost remaining = { λ s. at_most s.placed.left };
 
     fn next(&mut self) -> Option<Conjunction<'a>> {
-        let left = self.left.checked_sub(1)?;
-        let (conjunction, behind) = conjunction_at(self.row, self.at)?;
-        self.at = behind;
-        self.left = left;
+        let (_, conjunction) = self.placed.next()?;
         Some(conjunction)
     }
 }
@@ -127,11 +142,10 @@ impl<'a> Iterator for Edges<'a> {
 
     ghost next_gives = { λ s r t. ((es : List automata.Edge) → EdgesAre es s → NextEdge es r t) };
 
-    ghost remaining = { λ s. at_most (length s.row.now - s.at) };
+    ghost remaining = { λ s. at_most (length s.placed.row.now - s.placed.at) };
 
     fn next(&mut self) -> Option<Edge<'a>> {
-        let (edge, end) = edge_at(self.row, self.at)?;
-        self.at = end;
+        let (_, edge) = self.placed.next()?;
         Some(edge)
     }
 }
