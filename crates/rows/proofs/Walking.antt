@@ -1,7 +1,6 @@
 -- Going over a row word by word: what each step says of the reading from there on.
-use Rattle.std.proofs.Common.{◌≡◌, ℕ, zero, suc, ◌+◌, ◌-◌, ◌<◌, ◌≤◌, true, false, List, [], ◌∷◌, length, get_or, drop, Ok, Err, Result, refl, ap, ◌∙◌, subst, zero-add, add-one, arith, length-append, length-drop, drop_of_length-le, drop-cons, le-ltb, lt-ltb}
+use Rattle.std.proofs.Common.{◌≡◌, ℕ, zero, suc, ◌+◌, ◌-◌, ◌<◌, ◌≤◌, true, List, [], ◌∷◌, length, get_or, drop, Ok, Err, Result, refl, ap, ◌∙◌, subst, zero-add, add-one, arith, length-append, length-drop, drop_of_length-le, drop-cons, le-ltb, lt-ltb}
 use mathlib.Core.Option.{some, none}
-use borrow.Author.Tests.{lt-leb}
 use Rattle.automata.specs.Automata.{Constraint, Edge}
 use Rattle.rows.specs.Parse.{Outcome, prepend, and_then, upper_only, all_relations, fits, constraint, parse_constraints, parse_conjunction, parse_invariants, parse_clocks, parse_resets, parse_edge, parse_edges}
 use Rattle.rows.specs.declared.refusals.Refusal.{Refusal}
@@ -116,19 +115,6 @@ pub constraint-ends : (n r : ℕ) (row : List ℕ) (at : ℕ)
 constraint-ends n r row at h k = few_words n r k (drop at row) (simp length-drop (omega arith))
 
 module _ (n r : ℕ) (row : List ℕ) (at : ℕ) (room : at + 3 ≤ length row) where
-  unfit : fits n r (get_or row at 0) (get_or row (at + 1) 0) (get_or row (at + 2) 0) ≡ false → (k : ℕ) → parse_constraints n r (suc k) (drop at row) ≡ none
-  unfit e k = rw (drop-three row at room, e)
-
-  pub constraint-clock : n ≤ get_or row at 0 → (k : ℕ) → parse_constraints n r (suc k) (drop at row) ≡ none
-  constraint-clock h = unfit (rw (le-ltb (get_or row at 0) n h))
-
-  pub constraint-relation : get_or row at 0 < n → r ≤ get_or row (at + 1) 0 → (k : ℕ) → parse_constraints n r (suc k) (drop at row) ≡ none
-  constraint-relation h i = unfit (rw (lt-ltb (get_or row at 0) n h, le-ltb (get_or row (at + 1) 0) r i))
-
-  pub constraint-bound : get_or row at 0 < n → get_or row (at + 1) 0 < r → 10000 < get_or row (at + 2) 0 → (k : ℕ) → parse_constraints n r (suc k) (drop at row) ≡ none
-  constraint-bound h i j =
-      unfit (rw (lt-ltb (get_or row at 0) n h, lt-ltb (get_or row (at + 1) 0) r i, lt-leb (get_or row (at + 2) 0) 10000 j))
-
   pub constraint-fits : fits n r (get_or row at 0) (get_or row (at + 1) 0) (get_or row (at + 2) 0) ≡ true
       → (k : ℕ)
       → Leads (parse_constraints n r k (drop (at + 3) row)) (parse_constraints n r (suc k) (drop at row))
