@@ -1,4 +1,5 @@
 pub mod Lists
+pub mod Made
 pub mod Constraints
 pub mod Numbered
 pub mod Resets

@@ -1,7 +1,9 @@
 -- Resets one after the other: a clock is 0 if it is among those that are reset.
-use Rattle.std.proofs.Common.{◌≡◌, ℕ, zero, suc, ◌+◌, ◌<◌, ◌≤◌, Bool, true, false, cond, ◌||◌, eqb, ◌≢◌, List, [], ◌∷◌, length, get_or, drop, set, refl, ap, ◌∙◌, subst, add-one, drop_of_length-le, drop-cons, get_or-set_other, ne_eqb, eqb-true}
+use Rattle.std.proofs.Common.{◌≡◌, ℕ, zero, suc, Bool, true, false, cond, ◌||◌, eqb, ◌≢◌, List, [], ◌∷◌, get_or, set, sym, refl, ◌∙◌, ap₂, subst, inl, inr, get_or-set_other, eqb-true}
+use Rattle.std.specs.List.{list_any}
 use borrow.Author.Tests.{eqb-false}
 use Rattle.regions.specs.Moves.{among}
+use Rattle.regions.proofs.Tests.{eqb_cases}
 
 set_zero : (vs : List ℕ) (i : ℕ) → get_or (set vs i 0) i 0 ≡ 0
 set_zero [] zero = refl
@@ -25,17 +27,14 @@ one_set xs x i vs = go (eqb i x) refl
         let other : i ≢ x = eqb-false i x e in
         rw (e, get_or-set_other) refl
 
--- one reset more
-module _ (xs : List ℕ) (k i : ℕ) (vs : List ℕ) (h : k < length xs) where
-  first : among i (drop k xs) ≡ (eqb i (get_or xs k 0) || among i (drop (k + 1) xs))
-  first = rw (add-one k) (ap (among i) (drop-cons xs k 0 h))
+eqb_comm : (x i : ℕ) → eqb x i ≡ eqb i x
+eqb_comm x i =
+    elim (eqb_cases x i) [
+      | inl q ↦ elim (eqb_cases i x) [ inl r ↦ q.0 ∙ sym r.0 | inr r ↦ absurd (r.1 (sym q.1)) ]
+      | inr q ↦ elim (eqb_cases i x) [ inl r ↦ absurd (q.1 (sym r.1)) | inr r ↦ q.0 ∙ sym r.0 ]
+    ]
 
-  pub one_reset : cond (among i (drop (k + 1) xs)) 0 (get_or (set vs (get_or xs k 0) 0) i 0) ≡ cond (among i (drop k xs)) 0 (get_or vs i 0)
-  one_reset = one_set (drop (k + 1) xs) (get_or xs k 0) i vs ∙ rw (first) refl
-
-  pub no_reset : (i ≡ get_or xs k 0 → ⊥) → cond (among i (drop (k + 1) xs)) 0 (get_or vs i 0) ≡ cond (among i (drop k xs)) 0 (get_or vs i 0)
-  no_reset other = rw (first, ne_eqb i (get_or xs k 0) other) refl
-
--- none is left
-pub resets-end : (xs : List ℕ) (k i v : ℕ) → length xs ≤ k → cond (among i (drop k xs)) 0 v ≡ v
-resets-end xs k i v h = rw (drop_of_length-le xs h) refl
+-- a clock is among some just where one of them is it
+pub among_any : (i : ℕ) (xs : List ℕ) → list_any (λ (x : ℕ). eqb x i) xs ≡ among i xs
+among_any i [] = refl
+among_any i (x ∷ xs) = ap₂ (λ (a b : Bool). a || b) (eqb_comm x i) (among_any i xs)

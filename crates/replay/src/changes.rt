@@ -9,6 +9,7 @@ use crate::moments::Moment;
 use rows::edges::Edge;
 use rows::limits::CLOCKS;
 use rows::views::Automaton;
+use std::array;
 
 // The moment after a wait; none where a sum is too large.
 pub(crate) fn waited(moment: &Moment, delay: u64) -> Option<Moment>
@@ -30,14 +31,13 @@ pub(crate) fn waited(moment: &Moment, delay: u64) -> Option<Moment>
 pub fn with_resets(clocks: [u64; CLOCKS], resets: &[u32]) -> [u64; CLOCKS]
     ensures { (i : ℕ) → i < 8 → slice_index result i ≡ (if among i resets.now then 0 else slice_index clocks i) }
 {
-    let mut after = clocks;
-    for clock in resets {
-        let place = *clock as usize;
-        if place < CLOCKS {
-            after[place] = 0;
+    array::from_fn(|place| {
+        if resets.contains(&(place as u32)) {
+            0
+        } else {
+            clocks[place]
         }
-    }
-    after
+    })
 }
 
 // The edge of a number, from 0 in the order of the row.

@@ -1,26 +1,13 @@
--- A clock that is reset is 0 from then on.
-use Rattle.std.proofs.Common.{◌<◌, get_or, sym, ◌∙◌, arith}
-use Rattle.replay.proofs.Resets.{one_reset, no_reset, resets-end}
+-- A clock is 0 just where it is among the resets.
+use Rattle.std.proofs.Common.{◌≡◌, ℕ, cond, eqb, get_or, rules}
+use Rattle.std.specs.List.{list_any}
+use Rattle.replay.proofs.Made.{made}
+use Rattle.replay.proofs.Resets.{among_any}
 use Rattle.replay.proofs.changes.with_resets.Goals as goal
-use Rattle.replay.proofs.changes.with_resets.Goals.{then-place-lt-CLOCKS, else-place-lt-CLOCKS}
-
-pub loop-clock-preserved : goal.loop-clock-preserved
-loop-clock-preserved c =
-    λ i h.
-    let inside : c.loop-clock.clock-index < _ = c.loop-clock-test.true in
-    elim c.if-place-lt-CLOCKS.branch [
-      | then-place-lt-CLOCKS w ↦
-          rw
-          w.after-is
-          (one_reset c.args.resets.now c.loop-clock.clock-index i c.loop-clock.after inside ∙ c.loop-clock.invariant i h)
-      | else-place-lt-CLOCKS w ↦
-          rw
-          w.after-is
-          (no_reset c.args.resets.now c.loop-clock.clock-index i c.loop-clock.after inside (λ e. omega arith) ∙ c.loop-clock.invariant i h)
-    ]
 
 pub returns : goal.returns
 returns c =
     λ i h.
-    sym (resets-end c.args.resets.now c.loop-clock.clock-index i (get_or c.loop-clock.after i 0) c.loop-clock-test.false)
-    ∙ c.loop-clock.invariant i h
+    let resets = c.args.resets.now in
+    let R = λ (j : ℕ) (v : ℕ). v ≡ cond (list_any (λ (x : ℕ). eqb x j) resets) 0 (get_or c.args.clocks j 0) in
+    rw (← among_any i resets) (made _ R _ (λ j y q k. search rules) _ 8 c.from_fn.ensures.items i 0 h)
