@@ -2,7 +2,6 @@
 #![tactic(auto)]
 
 use crate::options::{Options, Output};
-use crate::summary::Summary;
 use console::messages::{Problem, Report};
 use console::options::{BadCall, Request};
 use console::{input, numbers, texts};
@@ -18,12 +17,8 @@ mod summary;
 fn answer(heap: Global, options: &Options, bytes: &[u8]) -> Result<String, Problem> {
     let drawing = texts::read(heap, options.form, bytes)?;
     let row = drawing.row.as_slice();
-    let names = &drawing;
     match options.output {
-        Output::Summary => {
-            let automaton = texts::view(row)?;
-            Ok(format!(in heap; "{}", Summary { automaton, names })?)
-        }
+        Output::Summary => Ok(summary::write(heap, texts::view(row)?, &drawing)?),
         Output::Row => numbers::write(heap, row),
         Output::Drawing => texts::draw(heap, row),
     }

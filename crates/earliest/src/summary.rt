@@ -4,13 +4,14 @@ use drawing::Drawing;
 use rows::constraints::{Clock, Conjunction};
 use rows::edges::{Edge, Location};
 use rows::views::Automaton;
+use std::alloc::{AllocError, Global};
 use std::fmt;
 
 // A clockwork, with the names of its clocks and positions.
 #[derive(Clone, Copy)]
-pub struct Summary<'a> {
-    pub automaton: Automaton<'a>,
-    pub names: &'a Drawing,
+struct Summary<'a> {
+    automaton: Automaton<'a>,
+    names: &'a Drawing,
 }
 
 impl<'a> Summary<'a> {
@@ -100,4 +101,12 @@ impl<'a> fmt::Display for Summary<'a> {
         self.write_positions(f)?;
         self.write_steps(f)
     }
+}
+
+pub fn write(
+    heap: Global,
+    automaton: Automaton<'_>,
+    names: &Drawing,
+) -> Result<String, AllocError> {
+    format!(in heap; "{}", Summary { automaton, names })
 }
