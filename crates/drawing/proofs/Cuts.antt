@@ -2,8 +2,9 @@
 use Rattle.std.proofs.Common.{◌≡◌, ℕ, ◌+◌, ◌<◌, false, cond, List, length, ap, arith, length-append}
 use Rattle.std.proofs.lemmas.Str.{length-encode, len_utf8_bounds}
 use Rattle.std.proofs.Math.Utf8.{encode}
+use Rattle.rows.specs.declared.constraints.Relation.TheVariants.{AtMost, Below, AtLeast, Above}
 use Rattle.drawing.specs.declared.errors.Sign as signs
-use Rattle.drawing.specs.declared.errors.Sign.TheVariants.{Colon, Comma, Arrow, AtMost, Below, AtLeast, Above, Equal}
+use Rattle.drawing.specs.declared.errors.Sign.TheVariants.{Colon, Comma, Arrow, Relation, Equal}
 use Rattle.drawing.specs.declared.words.Word as words
 use Rattle.drawing.specs.declared.words.Word.TheVariants.{Text, Sign, Stray, End}
 use Rattle.drawing.specs.Words.{text_of, Cuts, is_end}
@@ -12,10 +13,10 @@ sign_takes : (s : signs.Sign) → 0 < length (text_of s)
 sign_takes Colon = omega arith
 sign_takes Comma = omega arith
 sign_takes Arrow = omega arith
-sign_takes AtMost = omega arith
-sign_takes Below = omega arith
-sign_takes AtLeast = omega arith
-sign_takes Above = omega arith
+sign_takes (Relation AtMost) = omega arith
+sign_takes (Relation Below) = omega arith
+sign_takes (Relation AtLeast) = omega arith
+sign_takes (Relation Above) = omega arith
 sign_takes Equal = omega arith
 
 character_takes : (c : ℕ) → 0 < length (encode c)

@@ -1,5 +1,8 @@
 -- What a sign between a clock and a number means, and the tests that it stands for.
-use Rattle.std.specs.Prelude.{ℕ, List, [], ◌∷◌, Some, None, Option}
+use Rattle.std.specs.Prelude.{ℕ, Bool, true, List, [], ◌∷◌, Some, None, Option}
+use Rattle.automata.specs.Rows.{upper}
+use Rattle.rows.specs.Parts.{relation_value}
+use Rattle.rows.specs.declared.constraints.Relation.{Relation}
 use Rattle.rows.specs.declared.constraints.Relation.TheVariants.{AtMost, Below, AtLeast, Above}
 use Rattle.rows.specs.declared.constraints.Clock.{Clock}
 use Rattle.rows.specs.declared.constraints.Constraint.{Constraint as Test}
@@ -15,6 +18,10 @@ abbrev pub tests_of : Clock → Comparison → ℕ → List Test
 tests_of x (One r) m = record { clock = x; relation = r; bound = m } ∷ []
 tests_of x Equal m = record { clock = x; relation = AtMost; bound = m } ∷ record { clock = x; relation = AtLeast; bound = m } ∷ []
 
+abbrev pub takes : Owner → Relation → Bool
+takes Position r = upper (relation_value r)
+takes Step r = true
+
 -- what bounds a clock from below may stand in a step only
 abbrev pub in_step : Owner → Comparison → Option Comparison
 in_step Position k = None
@@ -24,10 +31,10 @@ abbrev pub comparison_of : Owner → Sign → Option Comparison
 comparison_of o sign.Colon = None
 comparison_of o sign.Comma = None
 comparison_of o sign.Arrow = None
-comparison_of o sign.AtMost = Some (One AtMost)
-comparison_of o sign.Below = Some (One Below)
-comparison_of o sign.AtLeast = in_step o (One AtLeast)
-comparison_of o sign.Above = in_step o (One Above)
+comparison_of o (sign.Relation AtMost) = Some (One AtMost)
+comparison_of o (sign.Relation Below) = Some (One Below)
+comparison_of o (sign.Relation AtLeast) = in_step o (One AtLeast)
+comparison_of o (sign.Relation Above) = in_step o (One Above)
 comparison_of o sign.Equal = in_step o Equal
 
 abbrev pub comparison_at : Owner → Option Sign → Option Comparison

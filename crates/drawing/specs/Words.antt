@@ -1,8 +1,9 @@
 -- The texts of the signs, and how a word is cut from a text.
 use Rattle.std.specs.Prelude.{◌≡◌, ℕ, ◌<◌, Bool, true, false, List, ◌++◌, length, Some, None, codes, Option, slice_index}
 use Rattle.std.proofs.Math.Utf8.{encode}
+use Rattle.rows.specs.Parts.{relation_value, relation_text}
 use Rattle.drawing.specs.declared.errors.Sign as signs
-use Rattle.drawing.specs.declared.errors.Sign.TheVariants.{Colon, Comma, Arrow, AtMost, Below, AtLeast, Above, Equal}
+use Rattle.drawing.specs.declared.errors.Sign.TheVariants.{Colon, Comma, Arrow, Relation, Equal}
 use Rattle.drawing.specs.declared.words.Word as words
 use Rattle.drawing.specs.declared.words.Word.TheVariants.{Text, Sign, Stray, End}
 
@@ -10,10 +11,7 @@ abbrev pub text_of : signs.Sign → List ℕ
 text_of Colon = codes ":"
 text_of Comma = codes ","
 text_of Arrow = codes "->"
-text_of AtMost = codes "<="
-text_of Below = codes "<"
-text_of AtLeast = codes ">="
-text_of Above = codes ">"
+text_of (Relation r) = relation_text (relation_value r)
 text_of Equal = codes "="
 
 -- the text is the word and then the rest; at its end the text has no more, or a comment, which `#` begins

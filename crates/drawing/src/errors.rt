@@ -3,6 +3,7 @@ ghost use Rattle.std.specs.Prelude.{◌≡◌, ◌+◌, ◌≤◌, length, Some,
 ghost use Rattle.drawing.specs.Words.{text_of};
 ghost use Rattle.drawing.specs.Places.{newline_count, last_line_len as characters_since, place_text};
 
+use clockworks::parts::Relation;
 use clockworks::write::Unfit;
 use std::error::Error;
 use std::fmt;
@@ -62,20 +63,18 @@ pub enum Found {
     Unfit(Unfit),
 }
 
-// The signs of a drawing. Those of relations are no `Relation` here: a line is cut by the text of a sign, which rows only prints.
+// The signs of a drawing.
 #[derive(Clone, Copy, Debug, PartialEq, Eq)]
 pub enum Sign {
     Colon,
     Comma,
     Arrow,
-    AtMost,
-    Below,
-    AtLeast,
-    Above,
+    Relation(Relation),
     Equal,
 }
 
 impl Sign {
+    // The texts of relations stand here again, since rows only prints them, and a line is cut by the text of a sign.
     pub fn text(self) -> &'static str
         ensures { result.now ≡ text_of self }
     {
@@ -83,10 +82,10 @@ impl Sign {
             Sign::Colon => ":",
             Sign::Comma => ",",
             Sign::Arrow => "->",
-            Sign::AtMost => "<=",
-            Sign::Below => "<",
-            Sign::AtLeast => ">=",
-            Sign::Above => ">",
+            Sign::Relation(Relation::AtMost) => "<=",
+            Sign::Relation(Relation::Below) => "<",
+            Sign::Relation(Relation::AtLeast) => ">=",
+            Sign::Relation(Relation::Above) => ">",
             Sign::Equal => "=",
         }
     }

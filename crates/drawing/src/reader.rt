@@ -3,7 +3,7 @@ ghost use Rattle.std.specs.Prelude.{◌≡◌, ◌+◌, ◌*◌, ◌<◌, ◌≤
 ghost use Rattle.automata.specs.Rows.{write};
 ghost use Rattle.clockworks.specs.Meaning.{automaton};
 ghost use Rattle.drawing.specs.Words.{sign_part};
-ghost use Rattle.drawing.specs.Comparisons.{tests_of, comparison_at};
+ghost use Rattle.drawing.specs.Comparisons.{takes, tests_of, comparison_at};
 ghost use Rattle.drawing.specs.Sizes.{test_count, position_size, step_size, parts_size};
 
 use crate::cursor::Cursor;
@@ -31,6 +31,17 @@ enum Owner {
     Step,
 }
 
+impl Owner {
+    fn takes(self, relation: Relation) -> bool
+        ensures { result ≡ takes self relation }
+    {
+        match self {
+            Owner::Position => relation.bounds_above(),
+            Owner::Step => true,
+        }
+    }
+}
+
 // How a clock is compared, as a drawing writes it: `=` stands for two tests.
 #[derive(Clone, Copy)]
 enum Comparison {
@@ -51,10 +62,7 @@ fn read_comparison(cursor: &mut Cursor, owner: Owner) -> Result<Comparison, Mist
     ensures { MatchResult result (λ k. comparison_at owner (sign_part cursor.old.word) ≡ Some k) (λ _. comparison_at owner (sign_part cursor.old.word) ≡ None) }
 {
     let comparison = match (cursor.sign(), owner) {
-        (Some(Sign::AtMost), _) => Comparison::One(Relation::AtMost),
-        (Some(Sign::Below), _) => Comparison::One(Relation::Below),
-        (Some(Sign::AtLeast), Owner::Step) => Comparison::One(Relation::AtLeast),
-        (Some(Sign::Above), Owner::Step) => Comparison::One(Relation::Above),
+        (Some(Sign::Relation(relation)), _) if owner.takes(relation) => Comparison::One(relation),
         (Some(Sign::Equal), Owner::Step) => Comparison::Equal,
         (_, Owner::Position) => return Err(cursor.mistake(Expected::UpperRelation)),
         (_, Owner::Step) => return Err(cursor.mistake(Expected::Relation)),
@@ -68,12 +76,11 @@ fn read_bound(cursor: &mut Cursor) -> Result<u32, Mistake>
 {
     let mistake = cursor.mistake(Expected::Bound);
     let text = cursor.text().ok_or(mistake)?;
-    let Ok(bound) = text.parse::<u32>() else {
-        return Err(mistake);
-    };
-    if bound > MOST_BOUND {
-        return Err(mistake);
-    }
+    let bound = text
+        .parse::<u32>()
+        .ok()
+        .filter(|bound| *bound <= MOST_BOUND)
+        .ok_or(mistake)?;
     cursor.advance();
     Ok(bound)
 }

@@ -3,14 +3,15 @@ ghost use Rattle.std.specs.Prelude.{◌≡◌, ◌<◌, ◌++◌, length, IfSome
 ghost use Rattle.drawing.specs.Words.{text_of, Cuts};
 
 use crate::errors::Sign;
+use clockworks::parts::Relation;
 
 // All signs, each before those that it begins with.
 const SIGNS: [Sign; 8] = [
     Sign::Arrow,
-    Sign::AtMost,
-    Sign::AtLeast,
-    Sign::Below,
-    Sign::Above,
+    Sign::Relation(Relation::AtMost),
+    Sign::Relation(Relation::AtLeast),
+    Sign::Relation(Relation::Below),
+    Sign::Relation(Relation::Above),
     Sign::Equal,
     Sign::Colon,
     Sign::Comma,
