@@ -1,0 +1,3 @@
+-- Lemmas on blanks.
+mod Blanks
+mod Counted

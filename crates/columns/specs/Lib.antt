@@ -1,0 +1,2 @@
+-- Texts in columns.
+pub mod Columns
