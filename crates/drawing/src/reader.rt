@@ -3,7 +3,7 @@ ghost use Rattle.std.specs.Prelude.{◌≡◌, ◌+◌, ◌*◌, ◌<◌, ◌≤
 ghost use Rattle.automata.specs.Rows.{write};
 ghost use Rattle.clockworks.specs.Meaning.{automaton};
 ghost use Rattle.drawing.specs.Words.{sign_part};
-ghost use Rattle.drawing.specs.Comparisons.{takes, tests_of, comparison_at};
+ghost use Rattle.drawing.specs.Comparisons.{tests_of, comparison_at};
 ghost use Rattle.drawing.specs.Sizes.{test_count, position_size, step_size, parts_size};
 
 use crate::cursor::Cursor;
@@ -12,6 +12,7 @@ use crate::mistakes::Mistake;
 use crate::names::{Names, find};
 use crate::room::Room;
 use clockworks::parts::{Clock, Clockwork, Position, Relation, Step, Test};
+use rows::constraints::Owner;
 use rows::limits::MOST_BOUND;
 use std::alloc::Global;
 
@@ -23,24 +24,6 @@ const STEP_NUMBERS: usize = 4;
 const TEST_NUMBERS: usize = 3;
 
 const RESET_NUMBERS: usize = 1;
-
-// Where a test stands: in a position it may bound a clock only from above.
-#[derive(Clone, Copy)]
-enum Owner {
-    Position,
-    Step,
-}
-
-impl Owner {
-    fn takes(self, relation: Relation) -> bool
-        ensures { result ≡ takes self relation }
-    {
-        match self {
-            Owner::Position => relation.bounds_above(),
-            Owner::Step => true,
-        }
-    }
-}
 
 // How a clock is compared, as a drawing writes it: `=` stands for two tests.
 #[derive(Clone, Copy)]
@@ -63,9 +46,9 @@ fn read_comparison(cursor: &mut Cursor, owner: Owner) -> Result<Comparison, Mist
 {
     let comparison = match (cursor.sign(), owner) {
         (Some(Sign::Relation(relation)), _) if owner.takes(relation) => Comparison::One(relation),
-        (Some(Sign::Equal), Owner::Step) => Comparison::Equal,
-        (_, Owner::Position) => return Err(cursor.mistake(Expected::UpperRelation)),
-        (_, Owner::Step) => return Err(cursor.mistake(Expected::Relation)),
+        (Some(Sign::Equal), Owner::Edge) => Comparison::Equal,
+        (_, Owner::Location) => return Err(cursor.mistake(Expected::UpperRelation)),
+        (_, Owner::Edge) => return Err(cursor.mistake(Expected::Relation)),
     };
     cursor.advance();
     Ok(comparison)
@@ -170,7 +153,7 @@ impl Reader<'_> {
         ensures { IfOk result (λ tests. self.new.room.left + 3 * vec_len tests ≡ self.old.room.left) }
     {
         if self.cursor.take_sign(Sign::Colon) {
-            return self.tests(Owner::Position);
+            return self.tests(Owner::Location);
         }
         self.cursor.expect_end(Expected::AfterPosition)?;
         Ok(Vec::new(self.heap))
@@ -181,7 +164,7 @@ impl Reader<'_> {
         ensures { IfOk result (λ tests. self.new.room.left + 3 * vec_len tests ≡ self.old.room.left) }
     {
         if self.cursor.take_word("when") {
-            return self.tests(Owner::Step);
+            return self.tests(Owner::Edge);
         }
         if self.cursor.text() != Some("reset") {
             self.cursor.expect_end(Expected::AfterTarget)?;
