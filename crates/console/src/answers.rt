@@ -1,9 +1,10 @@
 // Answers as text: `at 5`, `after 2`, `never`, and lines with a name and an answer in columns.
-ghost use Rattle.std.specs.Prelude.{◌≡◌, Some, string_bytes, OnOk};
+ghost use Rattle.std.specs.Prelude.{Some, string_bytes, OnOk};
 ghost use Rattle.clockworks.specs.Meaning.{Adds};
-ghost use Rattle.console.specs.Answers.{answer_text, columns, line_text};
+ghost use Rattle.console.specs.Answers.{answer_text, line_text};
 
 use clocks::answers::Asked;
+use columns::Padded;
 use std::alloc::AllocError;
 use std::fmt;
 
@@ -31,33 +32,36 @@ impl fmt::Display for Answer {
     }
 }
 
-// What an answer says, where so many kinds were allowed.
-pub fn write_answer(text: &mut String, asked: Asked, kinds: u32) -> Result<(), AllocError>
-    ensures { OnOk result (Adds (string_bytes text.old) (answer_text kinds asked) (string_bytes text.new)) }
+// A line: the name, blanks up to the width of its column and two more, and the answer. A longer name is not cut.
+#[derive(Clone, Copy)]
+pub struct Line<'a> {
+    pub name: &'a str,
+    pub width: usize,
+    pub answer: Answer,
+}
+
+impl<'a> fmt::Display for Line<'a> {
+    ghost output = { λ line. Some (line_text line.answer.kinds line.width line.name.now line.answer.asked) };
+
+    fn fmt<W: fmt::Write>(&self, f: &mut fmt::Formatter<W>) -> fmt::Result {
+        let answer = self.answer;
+        let name = Padded {
+            text: self.name,
+            width: self.width,
+        };
+        write!(f, "{name}  {answer}\n")
+    }
+}
+
+// What an answer says. The patch in docs/ calls it.
+pub fn write_answer(text: &mut String, answer: Answer) -> Result<(), AllocError>
+    ensures { OnOk result (Adds (string_bytes text.old) (answer_text answer.kinds answer.asked) (string_bytes text.new)) }
 {
-    let answer = Answer { asked, kinds };
     write!(text, "{answer}")
 }
 
-// How many columns a text takes: one for each character.
-pub fn count_columns(text: &str) -> usize
-    ensures { result ≡ columns text.now }
+pub fn write_line(text: &mut String, line: Line<'_>) -> Result<(), AllocError>
+    ensures { OnOk result (Adds (string_bytes text.old) (line_text line.entry.answer.kinds line.entry.width line.entry.name.now line.entry.answer.asked) (string_bytes text.new)) }
 {
-    text.chars().count()
-}
-
-// A line: the name, blanks up to the width of its column and two more, and the answer. A longer name is not cut.
-pub fn write_line(
-    text: &mut String,
-    name: &str,
-    width: usize,
-    asked: Asked,
-    kinds: u32,
-) -> Result<(), AllocError>
-    ensures { OnOk result (Adds (string_bytes text.old) (line_text kinds width name.now asked) (string_bytes text.new)) }
-{
-    let answer = Answer { asked, kinds };
-    // No clause says that the padding of `{name:width$}` counts the characters that `chars` gives.
-    let blanks = width.saturating_sub(count_columns(name));
-    write!(text, "{name}{:blanks$}  {answer}\n", "")
+    write!(text, "{line}")
 }

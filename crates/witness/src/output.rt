@@ -6,7 +6,7 @@ use accounts::names::{Names, name_of};
 use accounts::runs::write_run;
 use cells::tops::frame_of;
 use clocks::answers::Asked;
-use console::answers::{Answer, write_line};
+use console::answers::{Answer, Line, write_line};
 use rows::edges::Location;
 use rows::views::Automaton;
 use squares::shapes::of_region;
@@ -21,12 +21,13 @@ fn write_first(
 ) -> Result<(), AllocError> {
     match answer.asked {
         Asked::Many => write!(text, "{answer}\n"),
-        asked => write_line(
+        _ => write_line(
             text,
-            name_of(names.positions, location.0 as usize),
-            0,
-            asked,
-            answer.kinds,
+            Line {
+                name: name_of(names.positions, location.0 as usize),
+                width: 0,
+                answer,
+            },
         ),
     }
 }
