@@ -31,7 +31,8 @@ fn arrival_for(answer: Answer, part: u32) -> Option<Arrival>
 }
 
 // A witness of what the table, of at most so many entries, tells of a location: none where it is never come to. Where it is come
-// to only after a time, the run ends by less than 1 / part after it.
+// to only after a time, the run ends by less than 1 / part after it. Its six parameters are kept, since a struct is no plainer: no two of
+// them stand together elsewhere, so each call would put them in, and the first line here would take them out.
 pub fn witness_of(
     heap: Global,
     automaton: &Automaton,
@@ -49,12 +50,8 @@ pub fn witness_of(
     let Some(arrival) = arrival_for(answer, part) else {
         return Ok(None);
     };
-    let Some(entry) = table.first(location.0 as usize) else {
-        return Err(Failure::Astray);
-    };
-    let Some(region) = table.region(entry) else {
-        return Err(Failure::Astray);
-    };
+    let entry = table.first(location.0 as usize).ok_or(Failure::Astray)?;
+    let region = table.region(entry).ok_or(Failure::Astray)?;
     let way = way_to(heap, automaton, table, entry, kinds)?;
     let run = realise(heap, automaton, way.as_slice(), location, arrival)?;
     Ok(Some(Witness {
