@@ -20,6 +20,9 @@ adds_more {xs = xs} {vs = vs} {ws = ws} p q =
 pub adds_same : {xs vs ws ys : List ℕ} → vs ≡ ws → Adds xs vs ys → Adds xs ws ys
 adds_same {xs = xs} e p = record { longer = p.longer ∙ ap (λ (l : List ℕ). xs ++ l) e }
 
+pub adds_none : {xs : List ℕ} → Adds xs [] xs
+adds_none {xs = xs} = record { longer = sym (append-nil xs) }
+
 -- W writes a list of parts by w, one after the other; F says by f that each of them fits
 pub record Walk {X : Type 0} (w : X → List ℕ) (W : List X → List ℕ) (f : X → Bool) (F : List X → Bool) : Type 0 where
   pub no_words : W [] ≡ []
@@ -70,7 +73,7 @@ module _ {X : Type 0} {w : X → List ℕ} {W : List X → List ℕ} {f : X → 
 
 -- the writer of a part, then of another, has written both
 pub wrote_none : (w : Writer) → Wrote w w [] (λ n p. true)
-wrote_none w = record { adds = record { longer = sym (append-nil (vec_items w.row)) }; fine = refl; clocks = refl; positions = refl }
+wrote_none w = record { adds = adds_none; fine = refl; clocks = refl; positions = refl }
 
 pub wrote_then : {a b c : Writer} {ws vs : List ℕ} {f g : ℕ → ℕ → Bool} → Wrote a b ws f → Wrote b c vs g → Wrote a c (ws ++ vs) (λ n p. f n p && g n p)
 wrote_then {a = a} {b = b} {g = g} h k =

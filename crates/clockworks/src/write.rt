@@ -8,57 +8,34 @@ ghost use Rattle.clockworks.specs.Meaning.{invariant_of, edge, automaton, test_w
 use crate::parts::{Clockwork, Position, Step, Test};
 use rows::constraints::UnknownRelation;
 use rows::limits::{LOCATIONS, MOST_BOUND, MOST_CLOCKS, MOST_WORDS};
-use std::alloc::{AllocError, AllocFailed, Global};
-use std::error::Error;
-use std::fmt;
+use std::alloc::{AllocError, Global};
+use thiserror::Error;
 
 // Why a clockwork has no row, or a row is no clockwork's.
-#[derive(Clone, Copy, Debug, PartialEq, Eq)]
+#[derive(Clone, Copy, Debug, PartialEq, Eq, Error)]
 pub enum Unfit {
-    Memory,
+    #[error("not enough memory")]
+    Memory(#[from(alloc)] AllocError),
+    #[error("no clock, or more than 8 clocks")]
     Clocks,
+    #[error("no position, or more than 256 positions")]
     Positions,
+    #[error("a clock that is not there")]
     Clock,
+    #[error("a position that is not there")]
     Position,
+    #[error("a number above 10000 in a test")]
     Bound,
+    #[error("a position that bounds a clock from below")]
     Lower,
+    #[error("more than 16384 numbers")]
     Words,
+    #[error("a row that ends too early")]
     Short,
+    #[error("a relation above 3")]
     Relation,
+    #[error("a row that no clockwork has")]
     Other,
-}
-
-impl fmt::Display for Unfit {
-    fn fmt<W: fmt::Write>(&self, f: &mut fmt::Formatter<W>) -> fmt::Result {
-        f.write_str(match self {
-            Unfit::Memory => "not enough memory",
-            Unfit::Clocks => "no clock, or more than 8 clocks",
-            Unfit::Positions => "no position, or more than 256 positions",
-            Unfit::Clock => "a clock that is not there",
-            Unfit::Position => "a position that is not there",
-            Unfit::Bound => "a number above 10000 in a test",
-            Unfit::Lower => "a position that bounds a clock from below",
-            Unfit::Words => "more than 16384 numbers",
-            Unfit::Short => "a row that ends too early",
-            Unfit::Relation => "a relation above 3",
-            Unfit::Other => "a row that no clockwork has",
-        })
-    }
-}
-
-impl Error for Unfit {}
-
-// By hand: thiserror's `#[from(alloc)]` wants a variant that holds the error, and nothing is told of it but that there was no memory.
-impl From<AllocError> for Unfit {
-    fn from(_e: AllocError) -> Unfit {
-        Unfit::Memory
-    }
-}
-
-impl<T: Drop> From<AllocFailed<T>> for Unfit {
-    fn from(_e: AllocFailed<T>) -> Unfit {
-        Unfit::Memory
-    }
 }
 
 impl From<UnknownRelation> for Unfit {
@@ -68,13 +45,6 @@ impl From<UnknownRelation> for Unfit {
 
     fn from(_e: UnknownRelation) -> Unfit {
         Unfit::Relation
-    }
-}
-
-// Only want of memory keeps a text from being written.
-impl From<fmt::Error> for Unfit {
-    fn from(_e: fmt::Error) -> Unfit {
-        Unfit::Memory
     }
 }
 

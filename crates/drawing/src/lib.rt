@@ -55,7 +55,7 @@ fn read_parts(heap: Global, text: &str) -> Result<(Names, Clockwork), Mistake> {
 // Why there is no row of what was read: the place is the end of the text.
 fn refuse_row(place: Place, unfit: Unfit) -> Refusal {
     match unfit {
-        Unfit::Memory => Refusal::Memory,
+        Unfit::Memory(_) => Refusal::Memory,
         unfit => Refusal::Wrong {
             place,
             found: Found::Unfit(unfit),
