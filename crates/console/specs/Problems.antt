@@ -6,7 +6,7 @@ use Rattle.console.specs.declared.messages.Problem.TheVariants.{Memory, Unfit}
 
 -- want of memory, or why it is none
 abbrev pub problem_of : unfits.Unfit → Problem
-problem_of unfit.Memory = Memory
+problem_of (unfit.Memory e) = Memory
 problem_of unfit.Clocks = Unfit unfit.Clocks
 problem_of unfit.Positions = Unfit unfit.Positions
 problem_of unfit.Clock = Unfit unfit.Clock

@@ -94,7 +94,7 @@ impl From<Unfit> for Problem {
 
     fn from(unfit: Unfit) -> Problem {
         match unfit {
-            Unfit::Memory => Problem::Memory,
+            Unfit::Memory(_) => Problem::Memory,
             unfit => Problem::Unfit(unfit),
         }
     }
