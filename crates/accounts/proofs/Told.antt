@@ -1,5 +1,5 @@
 -- A text that is written move by move, and in a line clock by clock.
-use Rattle.std.proofs.Common.{◌≡◌, ℕ, suc, ◌+◌, ◌<◌, ◌≤◌, min, List, [], ◌∷◌, ◌++◌, length, get_or, take, codes, sym, refl, ap, ◌∙◌, subst, append-nil, add-one}
+use Rattle.std.proofs.Common.{◌≡◌, ℕ, suc, ◌+◌, ◌<◌, ◌≤◌, min, List, [], ◌∷◌, ◌++◌, length, get_or, take, codes, sym, refl, ap, ◌∙◌, subst, append_assoc, append-nil, add-one}
 use Rattle.std.proofs.lemmas.List.{take_more, take_all}
 use Rattle.automata.specs.Automata.{Automaton}
 use Rattle.clockworks.specs.Meaning.{Adds}
@@ -9,52 +9,43 @@ use Rattle.replay.specs.declared.moments.Move.TheVariants.{Wait}
 use Rattle.replay.specs.declared.moments.Moment.{Moment}
 use Rattle.replay.specs.Meaning.{clock_of}
 use Rattle.replay.specs.Outcomes.{AtStart, Advanced}
-use Rattle.accounts.specs.declared.columns.Widths.{Widths}
-use Rattle.accounts.specs.Lines.{PartsText, name_of, MoveText, padded, cell_of_clock, ClocksText, next_clock, LineText, Lines, no_line, next_line}
+use Rattle.accounts.specs.declared.widths.Widths.{Widths}
+use Rattle.columns.specs.Columns.{padded}
+use Rattle.accounts.specs.Lines.{PartsText, name_of, MoveText, cell_of_clock, ClocksText, next_clock, LineText, Lines, no_line, next_line}
 
 pub adds_none : {xs : List ℕ} → Adds xs [] xs
 adds_none {xs = xs} = record { longer = sym (append-nil xs) }
-
--- f writes part after part, and w is the next one
-pub adds_next : {start now next w : List ℕ} (f : ℕ → List ℕ) (n : ℕ) → f (suc n) ≡ f n ++ w → Adds start (f n) now → Adds now w next → Adds start (f (n + 1)) next
-adds_next f n e sofar one = adds_same (sym e ∙ ap f (sym (add-one n))) (adds_more sofar one)
-
--- what was written into a text that was empty is all of it
-pub from_none : {start words text : List ℕ} → start ≡ [] → Adds start words text → text ≡ words
-from_none {words = words} empty adds = adds.longer ∙ ap (λ (l : List ℕ). l ++ words) empty
 
 module _ {X : Type 0} (text : X → List ℕ) (names : List X) (w : Widths) (d : ℕ) (m : Moment) (start : List ℕ) where
   -- the clocks below n are written after start
   abbrev pub ClocksWritten : ℕ → List ℕ → Type 0
   ClocksWritten n next = (words : List ℕ) × ClocksText text names w d m n words × Adds start words next
 
-  pub clocks_more : {now₀ now₁ now₂ : List ℕ} (n : ℕ) (name cell : List ℕ)
+  pub clocks_more : {now₀ now₁ : List ℕ} (n : ℕ) (name cell : List ℕ)
       → ClocksWritten n now₀
       → name ≡ name_of text names n
       → ((value : List ℕ) × PartsText d (clock_of m n) value × (cell ≡ (name ++ codes " = ") ++ value))
-      → Adds now₀ (codes "  ") now₁
-      → Adds now₁ (padded (get_or w.clocks n 0) cell) now₂
-      → ClocksWritten (n + 1) now₂
-  clocks_more {now₂ = now₂} n name cell (words, clocks, written) named (value, is, spelt) gap more =
+      → Adds now₀ (codes "  " ++ padded (get_or w.clocks n 0) cell) now₁
+      → ClocksWritten (n + 1) now₁
+  clocks_more {now₁ = now₁} n name cell (words, clocks, written) named (value, is, spelt) more =
       let whole : cell ≡ cell_of_clock text names n value = spelt ∙ ap (λ (l : List ℕ). (l ++ codes " = ") ++ value) named in
-      let more' = adds_same (ap (padded (get_or w.clocks n 0)) whole) more in
-      let all : ClocksWritten (suc n) now₂ = (_, next_clock clocks is, adds_more written (adds_more gap more')) in
-      subst (λ (k : ℕ). ClocksWritten k now₂) (sym (add-one n)) all
+      let more' = adds_same (ap (λ (l : List ℕ). codes "  " ++ padded (get_or w.clocks n 0) l) whole) more in
+      let all : ClocksWritten (suc n) now₁ = (_, next_clock clocks is, adds_more written more') in
+      subst (λ (k : ℕ). ClocksWritten k now₁) (sym (add-one n)) all
+
+joined : (a b c d e rest : List ℕ) → (a ++ (b ++ (c ++ (d ++ e)))) ++ rest ≡ a ++ (b ++ (c ++ (d ++ (e ++ rest))))
+joined a b c d e rest = simp append_assoc
 
 module _ {X : Type 0} (text : X → List ℕ) (clocks positions : List X) (w : Widths) (d : ℕ) where
-  pub line_written : {t₀ t₁ t₂ t₃ t₄ t₅ t₆ t₇ : List ℕ} (by : Move) (after : Moment) (moved time name : List ℕ)
+  pub line_written : {t₀ t₁ t₂ t₃ : List ℕ} (by : Move) (after : Moment) (moved time name : List ℕ)
       → MoveText d by moved
       → ((words : List ℕ) × PartsText d after.time words × (time ≡ codes "at " ++ words))
       → name ≡ name_of text positions after.location.0
-      → Adds t₀ (padded w.moves moved) t₁
-      → Adds t₁ (codes "  ") t₂
-      → Adds t₂ (padded w.times time) t₃
-      → Adds t₃ (codes "  ") t₄
-      → Adds t₄ (padded w.positions name) t₅
-      → ((words : List ℕ) × ClocksText text clocks w d after (min (length clocks) 8) words × Adds t₅ words t₆)
-      → Adds t₆ (codes "\n") t₇
-      → (line : List ℕ) × LineText text clocks positions w d by after line × Adds t₀ line t₇
-  line_written by after moved time name move_is (timed, time_is, spelt) named a gap b gap' place (clocked, clocks_are, e) end = (
+      → Adds t₀ (padded w.moves moved ++ (codes "  " ++ (padded w.times time ++ (codes "  " ++ padded w.positions name)))) t₁
+      → ((words : List ℕ) × ClocksText text clocks w d after (min (length clocks) 8) words × Adds t₁ words t₂)
+      → Adds t₂ (codes "\n") t₃
+      → (line : List ℕ) × LineText text clocks positions w d by after line × Adds t₀ line t₃
+  line_written by after moved time name move_is (timed, time_is, spelt) named cells (clocked, clocks_are, e) end = (
     _,
     record {
       move_words = moved;
@@ -63,14 +54,14 @@ module _ {X : Type 0} (text : X → List ℕ) (clocks positions : List X) (w : W
       move_is = move_is;
       time_is = time_is;
       clocks_are = clocks_are;
-      spelt = refl;
+      spelt = joined (padded w.moves moved) (codes "  ") (padded w.times (codes "at " ++ timed)) (codes "  ") (padded w.positions (name_of text positions after.location.0)) (clocked ++ codes "\n");
     },
-    adds_more a
-        (adds_more gap
-        (adds_more (adds_same (ap (padded w.times) spelt) b)
-        (adds_more gap'
-        (adds_more (adds_same (ap (padded w.positions) named) place)
-        (adds_more e end))))),
+    adds_more
+        (adds_same
+        (ap (λ (l : List ℕ). padded w.moves moved ++ (codes "  " ++ (padded w.times l ++ (codes "  " ++ padded w.positions name)))) spelt
+        ∙ ap (λ (l : List ℕ). padded w.moves moved ++ (codes "  " ++ (padded w.times (codes "at " ++ timed) ++ (codes "  " ++ padded w.positions l)))) named)
+        cells)
+        (adds_more e end),
   )
 
   module _ (a : Automaton) (moves : List Move) where

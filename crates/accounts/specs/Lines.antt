@@ -1,6 +1,5 @@
 -- The text of a run: a line for each move, with the time, the position and the clocks after it.
-use Rattle.std.specs.Prelude.{◌≡◌, ℕ, zero, suc, ◌-◌, min, List, [], ◌∷◌, ◌++◌, length, codes, decimal, slice_index}
-use Rattle.std.specs.Str.{chars}
+use Rattle.std.specs.Prelude.{◌≡◌, ℕ, zero, suc, min, List, [], ◌∷◌, ◌++◌, length, codes, decimal, slice_index}
 use Rattle.automata.specs.Automata.{Automaton}
 use Rattle.replay.specs.declared.moments.Move.{Move}
 use Rattle.replay.specs.declared.moments.Move.TheVariants.{Wait, Step}
@@ -8,7 +7,8 @@ use Rattle.replay.specs.declared.moments.Moment.{Moment}
 use Rattle.replay.specs.Fractions.{Lowest, ratio_text}
 use Rattle.replay.specs.Meaning.{clock_of}
 use Rattle.replay.specs.Outcomes.{AtStart, Advanced}
-use Rattle.accounts.specs.declared.columns.Widths.{Widths}
+use Rattle.columns.specs.Columns.{padded}
+use Rattle.accounts.specs.declared.widths.Widths.{Widths}
 
 -- the text of k d-ths: the same fraction in lowest terms
 pub record PartsText (d k : ℕ) (words : List ℕ) : Type 0 where
@@ -26,14 +26,6 @@ name_of text (x ∷ xs) (suc i) = name_of text xs i
 abbrev pub MoveText : ℕ → Move → List ℕ → Type 0
 MoveText d (Wait k) words = (parts : List ℕ) × PartsText d k parts × (words ≡ codes "wait " ++ parts)
 MoveText d (Step i) words = words ≡ codes "step " ++ decimal i
-
-abbrev pub blanks : ℕ → List ℕ
-blanks zero = []
-blanks (suc n) = blanks n ++ codes " "
-
--- a cell, and blanks up to the width of its column, by its characters
-abbrev pub padded : ℕ → List ℕ → List ℕ
-padded width cell = cell ++ blanks (width - length (chars cell))
 
 -- the cell of a clock: its name and its value
 abbrev pub cell_of_clock : {X : Type 0} → (X → List ℕ) → List X → ℕ → List ℕ → List ℕ

@@ -2,7 +2,7 @@
 #![tactic(auto)]
 
 pub mod bounds;
-mod columns;
 pub mod names;
 mod pieces;
 pub mod runs;
+mod widths;

@@ -5,12 +5,12 @@ ghost use Rattle.clockworks.specs.Meaning.{Adds};
 ghost use Rattle.replay.specs.declared.moments.Moment as moments;
 ghost use Rattle.accounts.specs.Lines.{name_of, ClocksText, LineText, Lines, Account};
 
-use crate::columns::{Widths, write_padded};
 use crate::names::{Names, name_of};
 use crate::pieces::{clock_cell, move_cell, time_cell};
+use crate::widths::Widths;
+use columns::{Padded, count_columns};
 use replay::moments::{Fault, Moment, Move};
 use replay::runs::{advance, begin};
-use rows::limits::CLOCKS;
 use rows::views::Automaton;
 use std::alloc::{AllocError, Global};
 
@@ -21,7 +21,7 @@ pub enum Untold {
     NoRun(Fault),
 }
 
-// Only want of memory keeps a text from being written.
+// By hand: thiserror's `#[from(alloc)]` wants a variant that holds the error, and nothing is told of it but that there was no memory.
 impl From<AllocError> for Untold {
     fn from(_e: AllocError) -> Untold {
         Untold::Memory
@@ -39,7 +39,7 @@ const MOST_COLUMNS: usize = 40;
 
 // The width of a column with one more cell.
 fn wider(width: usize, cell: &str) -> usize {
-    width.max(cell.chars().count().min(MOST_COLUMNS))
+    width.max(count_columns(cell).min(MOST_COLUMNS))
 }
 
 // What the lines of a run are told by.
@@ -88,7 +88,7 @@ impl<'a> Teller<'a> {
         Ok(widths.without_last(self.names.clocks.len()))
     }
 
-    // The cells of the clocks. By their numbers, which pick from three lists.
+    // The cells of the clocks.
     fn write_clocks(
         &self,
         text: &mut String,
@@ -97,11 +97,14 @@ impl<'a> Teller<'a> {
     ) -> Result<(), AllocError>
         ensures { OnOk result ((words : List ℕ) × ClocksText string_bytes self.now.names.clocks.now widths.now self.now.denominator moment.now (min (length self.now.names.clocks.now) 8) words × Adds (string_bytes text.old) words (string_bytes text.new)) }
     {
-        for clock in 0..self.names.clocks.len().min(CLOCKS) {
-            let name = name_of(self.names.clocks, clock);
-            let cell = clock_cell(self.heap, name, self.denominator, moment.clocks[clock])?;
-            write!(text, "  ")?;
-            write_padded(text, cell.as_str(), widths.clocks[clock])?;
+        let cells = moment.clocks.iter().zip(widths.clocks.iter());
+        for (name, (value, width)) in self.names.clocks.iter().zip(cells) {
+            let cell = clock_cell(self.heap, name.as_str(), self.denominator, *value)?;
+            let cell = Padded {
+                text: cell.as_str(),
+                width: *width,
+            };
+            write!(text, "  {cell}")?;
         }
         Ok(())
     }
@@ -118,12 +121,19 @@ impl<'a> Teller<'a> {
     {
         let moved = move_cell(self.heap, self.denominator, by)?;
         let time = time_cell(self.heap, self.denominator, after.time)?;
-        let position = self.position(after);
-        write_padded(text, moved.as_str(), widths.moves)?;
-        write!(text, "  ")?;
-        write_padded(text, time.as_str(), widths.times)?;
-        write!(text, "  ")?;
-        write_padded(text, position, widths.positions)?;
+        let moved = Padded {
+            text: moved.as_str(),
+            width: widths.moves,
+        };
+        let time = Padded {
+            text: time.as_str(),
+            width: widths.times,
+        };
+        let position = Padded {
+            text: self.position(after),
+            width: widths.positions,
+        };
+        write!(text, "{moved}  {time}  {position}")?;
         self.write_clocks(text, widths, after)?;
         write!(text, "\n")?;
         Ok(())

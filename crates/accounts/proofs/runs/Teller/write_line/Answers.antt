@@ -1,17 +1,18 @@
-use Rattle.std.proofs.Common.{string_bytes, codes, ap, rules}
+use Rattle.std.proofs.Common.{◌++◌, string_bytes, codes, ap, ◌∙◌, rules}
 use Rattle.clockworks.specs.Meaning.{Adds}
 use Rattle.clockworks.proofs.Writing.{adds_same}
-use Rattle.accounts.specs.Lines.{padded}
+use Rattle.columns.specs.Columns.{padded}
 use Rattle.accounts.proofs.Told.{line_written}
 use Rattle.accounts.proofs.runs.Teller.write_line.Goals as goal
 
 pub returns : goal.returns
 returns c =
-    let gap : Adds (string_bytes c.write_padded.new.text) (codes "  ") (string_bytes c.write.new.self) = search rules in
-    let gap-2 : Adds (string_bytes c.write_padded-2.new.text) (codes "  ") (string_bytes c.write-2.new.self) = search rules in
-    let end : Adds (string_bytes c.write_clocks.new.text) (codes "\n") (string_bytes c.write-3.new.self) = search rules in
-    let moved = adds_same (ap (padded c.args.widths.now.moves) c.as_str.ensures.value) c.in_ok-write_padded.ensures in
-    let timed = adds_same (ap (padded c.args.widths.now.times) c.as_str-2.ensures.value) c.in_ok-write_padded-2.ensures in
-    line_written string_bytes c.args.self.now.names.clocks.now c.args.self.now.names.positions.now c.args.widths.now c.args.self.now.denominator
-    c.args.by c.args.after.now _ _ _ c.in_ok-moved.ensures c.in_ok-time.ensures c.position-position.ensures
-    moved gap timed gap-2 c.in_ok-write_padded-3.ensures c.in_ok-write_clocks.ensures end
+    let teller = c.args.self.now in
+    let w = c.args.widths.now in
+    let moved = c.in_ok-moved.moved in
+    let time = c.in_ok-time.time in
+    let cells : Adds (string_bytes c.args.text.now) (padded w.moves (string_bytes moved) ++ (codes "  " ++ (padded w.times (string_bytes time) ++ (codes "  " ++ padded w.positions c.position.result.now)))) (string_bytes c.write.new.self) = search rules in
+    let end : Adds (string_bytes c.write_clocks.new.text) (codes "\n") (string_bytes c.write-2.new.self) = search rules in
+    line_written string_bytes teller.names.clocks.now teller.names.positions.now w teller.denominator
+    c.args.by c.args.after.now _ _ _ c.in_ok-moved.ensures c.in_ok-time.ensures c.position.ensures
+    cells c.in_ok-write_clocks.ensures end
