@@ -2,6 +2,7 @@ use Rattle.std.proofs.Common.{◌≡◌, ℕ, ◌++◌, List, length, get_or, mi
 use Rattle.std.proofs.lemmas.Iterator.{YieldsList-from_slice, YieldsList-from_zip}
 use Rattle.std.proofs.lemmas.Iterator.Consumers.{YieldsList-turn, YieldsList-end}
 use Rattle.clockworks.specs.Meaning.{Adds}
+use Rattle.clockworks.proofs.Writing.{adds_same}
 use Rattle.columns.specs.Columns.{padded}
 use Rattle.accounts.specs.Lines.{PartsText, no_clock}
 use Rattle.accounts.proofs.Named.{name_at}
@@ -21,7 +22,7 @@ loop-name-preserved c =
     let yielded = c.loop-name.yielded in
     let n = length yielded in
     let name = c.in-Some.name.now in
-    let turn = YieldsList-turn (YieldsList-from_zip (YieldsList-from_slice names cc) (YieldsList-from_zip (YieldsList-from_slice clocks cc) (YieldsList-from_slice widths cc))) yielded _ c.loop-name.yielded_by _ _ _ c.in-Some.is c.next.ensures.steps in
+    let turn = YieldsList-turn (YieldsList-from_zip (YieldsList-from_slice names cc) (YieldsList-from_zip (YieldsList-from_slice clocks cc) (YieldsList-from_slice widths cc))) yielded c.loop-name.name-iterator c.loop-name.yielded_by c.next.result c.next.new.self (c.in-Some.name, (c.in-Some.value, c.in-Some.width)) c.in-Some.is c.next.ensures.steps in
     let at = picked names clocks widths n name c.in-Some.value.now 0 c.in-Some.width.now 0 turn.0 turn.1 in
     let named = c.as_str.ensures.value ∙ ap string_bytes at.1 ∙ name_at string_bytes names n name at.0 in
     let one : Adds (string_bytes c.loop-name.text) (codes "  " ++ padded c.in-Some.width.now c.as_str-in-loop-name.result.now) (string_bytes c.write.new.self) = search rules in
@@ -37,7 +38,7 @@ returns c =
     let names = teller.names.clocks.now in
     let clocks = c.args.moment.now.clocks in
     let widths = c.args.widths.now.clocks in
-    let end = YieldsList-end (YieldsList-from_zip (YieldsList-from_slice names cc) (YieldsList-from_zip (YieldsList-from_slice clocks cc) (YieldsList-from_slice widths cc))) c.loop-name.yielded _ c.loop-name.yielded_by _ _ c.in-None.is c.next.ensures.steps in
+    let end = YieldsList-end (YieldsList-from_zip (YieldsList-from_slice names cc) (YieldsList-from_zip (YieldsList-from_slice clocks cc) (YieldsList-from_slice widths cc))) c.loop-name.yielded c.loop-name.name-iterator c.loop-name.yielded_by c.next.result c.next.new.self c.in-None.is c.next.ensures.steps in
     let values : length clocks ≡ 8 = search rules in
     let wide : length widths ≡ 8 = search rules in
     let count : length c.loop-name.yielded ≡ min (length names) 8 = end.1 ∙ (walked names clocks widths (values ∙ sym wide) ∙ ap (min (length names)) values) in
