@@ -13,9 +13,6 @@ use Rattle.drawing.specs.Sheets.{test_text, tests_text, clock_text, first_clocks
 pub text_walk : {X : Type 0} (w : X → List ℕ) → Walk w (flat_map w) (λ _. true) (λ _. true)
 text_walk w = record { no_words = refl; more_words = λ _ _. refl; none_fits = refl; more_fit = λ _ _. refl }
 
-pub adds_none : {xs : List ℕ} → Adds xs [] xs
-adds_none {xs = xs} = record { longer = sym (append-nil xs) }
-
 pub clocks_more : {start text next : List ℕ} (n : ℕ) → Adds start (first_clocks n) text → Adds text (clock_text n) next → Adds start (first_clocks (n + 1)) next
 clocks_more n h one = adds_same (ap first_clocks (sym (add-one n))) (adds_more h one)
 

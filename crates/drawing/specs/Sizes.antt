@@ -1,10 +1,11 @@
--- How many numbers each part of a clockwork takes in the row.
-use Rattle.std.specs.Prelude.{ℕ, ◌+◌, ◌*◌, List, [], ◌∷◌, vec_items, vec_len}
+-- How many numbers each part of a clockwork takes in the row, and the room that is left for more.
+use Rattle.std.specs.Prelude.{◌≡◌, ℕ, ◌+◌, ◌*◌, List, [], ◌∷◌, vec_items, vec_len}
 use Rattle.clockworks.specs.declared.parts.Position.{Position}
 use Rattle.clockworks.specs.declared.parts.Step.{Step}
 use Rattle.clockworks.specs.declared.parts.Clockwork.{Clockwork}
 use Rattle.drawing.specs.declared.reader.Comparison.{Comparison}
 use Rattle.drawing.specs.declared.reader.Comparison.TheVariants.{One, Equal}
+use Rattle.drawing.specs.declared.room.Room.{Room}
 
 -- `=` stands for two tests
 abbrev pub test_count : Comparison → ℕ
@@ -27,3 +28,7 @@ size_of_steps (s ∷ ss) = step_size s + size_of_steps ss
 
 abbrev pub parts_size : Clockwork → ℕ
 parts_size c = size_of_positions (vec_items c.positions) + size_of_steps (vec_items c.steps)
+
+-- what has come to `now` numbers, and had `before` of them, took the room of those that came
+abbrev pub Took : Room → Room → ℕ → ℕ → Type 0
+Took old new before now = new.left + now ≡ old.left + before

@@ -113,6 +113,14 @@ impl<'a> Cursor<'a> {
         self.take_if(here)
     }
 
+    // Whether a list goes on, whose parts have blanks between them, and may have a comma.
+    pub fn goes_on(&mut self) -> bool
+        ensures end { result ≡ false → is_end self.old.word ≡ true }
+        ensures left { result ≡ false → self.new ≡ self.old }
+    {
+        self.take_sign(Sign::Comma) || !self.at_end()
+    }
+
     // Something else was expected here.
     pub fn mistake(&self, expected: Expected) -> Mistake
         ensures { result ≡ Mistaken self.now.place expected }

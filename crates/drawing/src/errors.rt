@@ -5,8 +5,8 @@ ghost use Rattle.drawing.specs.Places.{newline_count, last_line_len as character
 
 use clockworks::parts::Relation;
 use clockworks::write::Unfit;
-use std::error::Error;
 use std::fmt;
+use thiserror::Error;
 
 // Lines and columns count from 1, columns in characters.
 #[derive(Clone, Copy, Debug, PartialEq, Eq)]
@@ -117,9 +117,12 @@ pub enum Expected {
     Row,
 }
 
-#[derive(Debug, PartialEq, Eq, Drop)]
+// As `PLACE: found .., expected ..`.
+#[derive(Debug, PartialEq, Eq, Drop, Error)]
 pub enum Refusal {
+    #[error("not enough memory")]
     Memory,
+    #[error("{place}: found {found}, expected {expected}")]
     Wrong {
         place: Place,
         found: Found,
@@ -179,19 +182,3 @@ impl fmt::Display for Expected {
         })
     }
 }
-
-// As `PLACE: found .., expected ..`.
-impl fmt::Display for Refusal {
-    fn fmt<W: fmt::Write>(&self, f: &mut fmt::Formatter<W>) -> fmt::Result {
-        match self {
-            Refusal::Memory => f.write_str("not enough memory"),
-            Refusal::Wrong {
-                place,
-                found,
-                expected,
-            } => write!(f, "{place}: found {found}, expected {expected}"),
-        }
-    }
-}
-
-impl Error for Refusal {}

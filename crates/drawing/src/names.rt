@@ -3,7 +3,7 @@ ghost use Rattle.std.specs.Prelude.{◌≡◌, ◌+◌, ◌<◌, ◌≤◌, leng
 ghost use Rattle.std.specs.List.{HoldsAt};
 
 use crate::cursor::Cursor;
-use crate::errors::{Expected, Sign};
+use crate::errors::Expected;
 use crate::mistakes::Mistake;
 use rows::limits::{CLOCKS, LOCATIONS};
 use std::alloc::Global;
@@ -80,7 +80,7 @@ fn declare(
     Ok(())
 }
 
-// The names after `clocks`: blanks part them, and a comma may.
+// The names after `clocks`.
 fn declare_clocks(
     heap: Global,
     clocks: &mut Vec<String>,
@@ -91,7 +91,7 @@ fn declare_clocks(
     loop {
         declare(heap, clocks, OF_CLOCKS, cursor)?;
         cursor.advance();
-        if !cursor.take_sign(Sign::Comma) && cursor.at_end() {
+        if !cursor.goes_on() {
             return Ok(());
         }
     }

@@ -4,10 +4,10 @@ ghost use Rattle.automata.specs.Rows.{write};
 ghost use Rattle.clockworks.specs.Meaning.{automaton};
 ghost use Rattle.drawing.specs.Words.{sign_part};
 ghost use Rattle.drawing.specs.Comparisons.{tests_of, comparison_at};
-ghost use Rattle.drawing.specs.Sizes.{test_count, position_size, step_size, parts_size};
+ghost use Rattle.drawing.specs.Sizes.{test_count, position_size, step_size, parts_size, Took};
 
 use crate::cursor::Cursor;
-use crate::errors::{Expected, Sign};
+use crate::errors::{Expected, Place, Sign};
 use crate::mistakes::Mistake;
 use crate::names::{Names, find};
 use crate::room::Room;
@@ -25,7 +25,7 @@ const TEST_NUMBERS: usize = 3;
 
 const RESET_NUMBERS: usize = 1;
 
-// How a clock is compared, as a drawing writes it: `=` stands for two tests.
+// How a clock is compared, as a drawing writes it: `=` stands for two tests. No Option of a relation: its None would not say `=`.
 #[derive(Clone, Copy)]
 enum Comparison {
     One(Relation),
@@ -119,16 +119,21 @@ struct Reader<'a> {
 }
 
 impl Reader<'_> {
+    // The next word is a clock: its place and its number.
+    fn clock(&mut self) -> Result<(Place, u32), Mistake>
+        ensures { OnOk result (self.new.room ≡ self.old.room) }
+    {
+        let place = self.cursor.place();
+        let clocks = self.names.clocks.as_slice();
+        let clock = read_name(clocks, &mut self.cursor, Expected::KnownClock)?;
+        Ok((place, clock))
+    }
+
     fn test(&mut self, owner: Owner, tests: &mut Vec<Test>) -> Result<(), Mistake>
-        ensures room { OnOk result (self.new.room.left + 3 * vec_len tests.new ≡ self.old.room.left + 3 * vec_len tests.old) }
+        ensures room { OnOk result (Took self.old.room self.new.room (3 * vec_len tests.old) (3 * vec_len tests.new)) }
         ensures more { OnOk result (vec_len tests.old < vec_len tests.new) }
     {
-        let start = self.cursor.place();
-        let clock = read_name(
-            self.names.clocks.as_slice(),
-            &mut self.cursor,
-            Expected::KnownClock,
-        )?;
+        let (start, clock) = self.clock()?;
         let comparison = read_comparison(&mut self.cursor, owner)?;
         let bound = read_bound(&mut self.cursor)?;
         self.room.take(numbers_of(comparison), start)?;
@@ -137,7 +142,7 @@ impl Reader<'_> {
 
     // Tests with commas between them.
     fn tests(&mut self, owner: Owner) -> Result<Vec<Test>, Mistake>
-        ensures { IfOk result (λ tests. self.new.room.left + 3 * vec_len tests ≡ self.old.room.left) }
+        ensures { IfOk result (λ tests. Took self.old.room self.new.room 0 (3 * vec_len tests)) }
     {
         let mut tests = Vec::new(self.heap);
         loop {
@@ -150,7 +155,7 @@ impl Reader<'_> {
 
     // The tests of a position, if it has any.
     fn invariant(&mut self) -> Result<Vec<Test>, Mistake>
-        ensures { IfOk result (λ tests. self.new.room.left + 3 * vec_len tests ≡ self.old.room.left) }
+        ensures { IfOk result (λ tests. Took self.old.room self.new.room 0 (3 * vec_len tests)) }
     {
         if self.cursor.take_sign(Sign::Colon) {
             return self.tests(Owner::Location);
@@ -161,7 +166,7 @@ impl Reader<'_> {
 
     // The tests of a step, if it has any.
     fn guard(&mut self) -> Result<Vec<Test>, Mistake>
-        ensures { IfOk result (λ tests. self.new.room.left + 3 * vec_len tests ≡ self.old.room.left) }
+        ensures { IfOk result (λ tests. Took self.old.room self.new.room 0 (3 * vec_len tests)) }
     {
         if self.cursor.take_word("when") {
             return self.tests(Owner::Edge);
@@ -172,31 +177,26 @@ impl Reader<'_> {
         Ok(Vec::new(self.heap))
     }
 
-    // The clocks that a step sets back, if any: blanks part them, and a comma may.
+    // The clocks that a step sets back, if any.
     fn resets(&mut self) -> Result<Vec<u32>, Mistake>
-        ensures { IfOk result (λ resets. self.new.room.left + vec_len resets ≡ self.old.room.left) }
+        ensures { IfOk result (λ resets. Took self.old.room self.new.room 0 (vec_len resets)) }
     {
         let mut resets = Vec::new(self.heap);
         if !self.cursor.take_word("reset") {
             return Ok(resets);
         }
         loop {
-            let start = self.cursor.place();
-            let clock = read_name(
-                self.names.clocks.as_slice(),
-                &mut self.cursor,
-                Expected::KnownClock,
-            )?;
+            let (start, clock) = self.clock()?;
             self.room.take(RESET_NUMBERS, start)?;
             resets.push(clock)?;
-            if !self.cursor.take_sign(Sign::Comma) && self.cursor.at_end() {
+            if !self.cursor.goes_on() {
                 return Ok(resets);
             }
         }
     }
 
     fn position(&mut self) -> Result<Position, Mistake>
-        ensures { IfOk result (λ position. self.new.room.left + position_size position ≡ self.old.room.left + 1) }
+        ensures { IfOk result (λ position. Took self.old.room self.new.room 1 (position_size position)) }
     {
         let _number = read_name(
             self.names.positions.as_slice(),
@@ -209,7 +209,7 @@ impl Reader<'_> {
     }
 
     fn step(&mut self) -> Result<Step, Mistake>
-        ensures { IfOk result (λ step. self.new.room.left + step_size step ≡ self.old.room.left + 4) }
+        ensures { IfOk result (λ step. Took self.old.room self.new.room 4 (step_size step)) }
     {
         let positions = self.names.positions.as_slice();
         let source = read_name(positions, &mut self.cursor, Expected::KnownPosition)?;
@@ -229,7 +229,7 @@ impl Reader<'_> {
     }
 
     fn line(&mut self, clockwork: &mut Clockwork) -> Result<(), Mistake>
-        ensures { OnOk result (self.new.room.left + parts_size clockwork.new ≡ self.old.room.left + parts_size clockwork.old) }
+        ensures { OnOk result (Took self.old.room self.new.room (parts_size clockwork.old) (parts_size clockwork.new)) }
     {
         let start = self.cursor.place();
         if self.cursor.take_word("position") {
@@ -245,25 +245,12 @@ impl Reader<'_> {
     }
 }
 
-// A mistake in a line of the text, if there is one, however many numbers its parts have.
-fn check_lines(heap: Global, names: &Names, text: &str) -> Result<(), Mistake> {
-    for (index, line) in text.lines().enumerate() {
-        let mut reader = Reader {
-            heap,
-            names,
-            cursor: Cursor::new(index, line),
-            room: Room::boundless(),
-        };
-        reader.line(&mut Clockwork::new(heap, 0))?;
-    }
-    Ok(())
-}
-
-fn read_lines(heap: Global, names: &Names, text: &str) -> Result<Clockwork, Mistake>
-    ensures { IfOk result (λ clockwork. length (write (automaton clockwork)) ≤ 16384) }
+// The parts that the text draws, where so much room is left for their numbers.
+fn read_lines(heap: Global, names: &Names, text: &str, mut room: Room) -> Result<Clockwork, Mistake>
+    ensures { IfOk result (λ clockwork. length (write (automaton clockwork)) ≤ room.left + 2) }
 {
-    let mut room = Room::new();
-    let mut clockwork = Clockwork::new(heap, names.clocks.len().min(u32::MAX as usize) as u32);
+    let clocks = u32::try_from(names.clocks.len()).unwrap_or(u32::MAX);
+    let mut clockwork = Clockwork::new(heap, clocks);
     for (index, line) in text.lines().enumerate() {
         let mut reader = Reader {
             heap,
@@ -282,9 +269,9 @@ fn read_lines(heap: Global, names: &Names, text: &str) -> Result<Clockwork, Mist
 pub fn read_all(heap: Global, names: &Names, text: &str) -> Result<Clockwork, Mistake>
     ensures { IfOk result (λ clockwork. length (write (automaton clockwork)) ≤ 16384) }
 {
-    let read = read_lines(heap, names, text);
+    let read = read_lines(heap, names, text, Room::new());
     if let Err(Mistake::Row(_)) = &read {
-        check_lines(heap, names, text)?;
+        read_lines(heap, names, text, Room::boundless())?;
     }
     read
 }

@@ -1,5 +1,6 @@
 // How many numbers may still come in the row of a clockwork whose parts are being read.
 ghost use Rattle.std.specs.Prelude.{◌≡◌, ◌+◌, ◌^◌, ◌<◌, MatchResult};
+ghost use Rattle.drawing.specs.Sizes.{Took};
 ghost use Rattle.drawing.specs.declared.mistakes.Mistake.TheVariants.{Row};
 
 use crate::errors::Place;
@@ -30,7 +31,7 @@ impl Room {
 
     // Takes the room of the part at the place: if there is too little, that is a mistake, and nothing is taken.
     pub fn take(&mut self, numbers: usize, place: Place) -> Result<(), Mistake>
-        ensures { MatchResult result (λ _. self.new.left + numbers ≡ self.old.left) (λ m. (self.old.left < numbers) × (self.new.left ≡ self.old.left) × (m ≡ Row place)) }
+        ensures { MatchResult result (λ _. Took self.old self.new 0 numbers) (λ m. (self.old.left < numbers) × (self.new.left ≡ self.old.left) × (m ≡ Row place)) }
     {
         if numbers > self.left {
             return Err(Mistake::Row(place));
