@@ -11,8 +11,8 @@ use Rattle.drawing.specs.declared.mistakes.Mistake.TheVariants.{Memory, Word, Ro
 -- the place and what was expected stay as they are, unless there is too little memory to say so
 abbrev pub Explained : Mistake → Refusal → Type 0
 Explained Memory refusal.Memory = Unit {0}
-Explained Memory (refusal.Wrong place found asked) = ⊥
+Explained Memory (refusal.Wrong w) = ⊥
 Explained (Word p e) refusal.Memory = Unit {0}
-Explained (Word p e) (refusal.Wrong place found asked) = (place ≡ p) × (asked ≡ e)
+Explained (Word p e) (refusal.Wrong w) = (w.place ≡ p) × (w.expected ≡ e)
 Explained (Row p) refusal.Memory = ⊥
-Explained (Row p) (refusal.Wrong place found asked) = (place ≡ p) × (found ≡ Unfit Words) × (asked ≡ expected.Row)
+Explained (Row p) (refusal.Wrong w) = (w.place ≡ p) × (w.found ≡ Unfit Words) × (w.expected ≡ expected.Row)

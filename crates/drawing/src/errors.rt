@@ -117,17 +117,22 @@ pub enum Expected {
     Row,
 }
 
-// As `PLACE: found .., expected ..`.
+// What stands at a place of a text, and what was expected there.
+#[derive(Debug, PartialEq, Eq, Drop, Error)]
+#[error_bound(F: fmt::Display, E: fmt::Display)]
+#[error("{place}: found {found}, expected {expected}")]
+pub struct Wrong<F, E> {
+    pub place: Place,
+    pub found: F,
+    pub expected: E,
+}
+
 #[derive(Debug, PartialEq, Eq, Drop, Error)]
 pub enum Refusal {
     #[error("not enough memory")]
     Memory,
-    #[error("{place}: found {found}, expected {expected}")]
-    Wrong {
-        place: Place,
-        found: Found,
-        expected: Expected,
-    },
+    #[error("{0}")]
+    Wrong(Wrong<Found, Expected>),
 }
 
 impl fmt::Display for Sign {

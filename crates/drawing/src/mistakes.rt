@@ -11,7 +11,7 @@ pub enum Mistake {
     Row(Place),
 }
 
-// By hand: thiserror's `#[from(alloc)]` wants a variant that holds the error, and nothing is told of it but that there was no memory.
+// By hand: thiserror wants a message of each variant, and a mistake has none before `explain` puts it into words.
 impl From<AllocError> for Mistake {
     fn from(_e: AllocError) -> Mistake {
         Mistake::Memory

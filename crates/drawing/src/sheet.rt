@@ -8,7 +8,7 @@ ghost use Rattle.drawing.specs.Sheets.{test_text, tests_text, clock_text, clocks
 use clockworks::parts::{Clockwork, Position, Step, Test};
 use std::alloc::{AllocError, Global};
 
-// No Display: a test is written after a word and a position with its number, so that each would want a struct of its own.
+// No Display: tests are of rows, and positions and steps of clockworks, so that each would want a struct of its own around it.
 
 // What is written as often as it comes. A test comes so behind the first of its position or step, and a clock behind `reset`.
 trait Part {
