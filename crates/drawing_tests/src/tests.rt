@@ -105,12 +105,8 @@ fn repeat(
     count: usize,
     end: &str,
 ) -> Result<String, AllocError> {
-    let mut text = String::from_str(heap, front)?;
-    for _ in 0..count {
-        text.push_str(part)?;
-    }
-    text.push_str(end)?;
-    Ok(text)
+    let parts = part.repeat(heap, count)?;
+    format!(in heap; "{front}{parts}{end}")
 }
 
 // A step that sets a clock back so many times: its row has 7 numbers more.
