@@ -23,5 +23,5 @@ WordsRefused row kinds (Unwritable e) = ⊥
 WordsRefused row kinds TooLarge = ⊥
 WordsRefused row kinds (Drawing e) = ⊥
 WordsRefused row kinds (Unfit e) = ⊥
-WordsRefused row kinds (Row place found expected) = ⊥
+WordsRefused row kinds (Row e) = ⊥
 WordsRefused row kinds (Position e) = ⊥

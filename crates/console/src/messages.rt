@@ -6,7 +6,7 @@ use crate::budget::TEXT_BYTES;
 use crate::input::Source;
 use crate::positions::Unknown;
 use clockworks::write::Unfit;
-use drawing::errors::{Place, Refusal};
+use drawing::errors::{Refusal, Wrong};
 use std::alloc::{AllocError, AllocFailed};
 use std::{fmt, io};
 
@@ -42,16 +42,9 @@ pub enum Problem {
     TooLarge,
     Drawing(Refusal),
     Unfit(Unfit),
-    Row {
-        place: Place,
-        found: Found,
-        expected: Expected,
-    },
+    Row(Wrong<Found, Expected>),
     Position(Unknown),
-    Kinds {
-        asked: u32,
-        fit: u32,
-    },
+    Kinds { asked: u32, fit: u32 },
 }
 
 // A problem with the text of a source.
@@ -161,11 +154,7 @@ impl<'a> fmt::Display for Report<'a> {
             Problem::TooLarge => write!(f, "{source}: the text is larger than {TEXT_BYTES} bytes"),
             Problem::Drawing(refusal) => write!(f, "{source}:{refusal}"),
             Problem::Unfit(unfit) => write!(f, "{source}: found {unfit}"),
-            Problem::Row {
-                place,
-                found,
-                expected,
-            } => write!(f, "{source}:{place}: found {found}, expected {expected}"),
+            Problem::Row(wrong) => write!(f, "{source}:{wrong}"),
             Problem::Position(unknown) => write!(f, "{source}: {unknown}"),
             Problem::Kinds { asked, fit } => write!(
                 f,

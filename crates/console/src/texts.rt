@@ -9,7 +9,7 @@ use crate::numbers;
 use crate::numbers::Mistake;
 use clockworks::write::Unfit;
 use drawing::Drawing;
-use drawing::errors::Place;
+use drawing::errors::{Place, Wrong};
 use rows::limits::MOST_WORDS;
 use rows::reader;
 use rows::refusals::Rule;
@@ -48,11 +48,11 @@ fn refuse(
     expected: Expected,
 ) -> Result<Problem, AllocError> {
     let word = numbers::find_word(bytes, word);
-    Ok(Problem::Row {
+    Ok(Problem::Row(Wrong {
         place: Place::after(bytes, word.start),
         found: show_word(heap, word.text)?,
         expected,
-    })
+    }))
 }
 
 // What a rule asks for.
