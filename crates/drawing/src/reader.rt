@@ -118,7 +118,19 @@ struct Reader<'a> {
     room: Room,
 }
 
-impl Reader<'_> {
+impl<'a> Reader<'a> {
+    // At the first word of the line with this index, from 0.
+    fn new(heap: Global, names: &'a Names, index: usize, line: &'a str, room: Room) -> Reader<'a>
+        ensures { result.room ≡ room }
+    {
+        Reader {
+            heap,
+            names,
+            cursor: Cursor::new(index, line),
+            room,
+        }
+    }
+
     // The next word is a clock: its place and its number.
     fn clock(&mut self) -> Result<(Place, u32), Mistake>
         ensures { OnOk result (self.new.room ≡ self.old.room) }
@@ -245,19 +257,24 @@ impl Reader<'_> {
     }
 }
 
-// The parts that the text draws, where so much room is left for their numbers.
-fn read_lines(heap: Global, names: &Names, text: &str, mut room: Room) -> Result<Clockwork, Mistake>
-    ensures { IfOk result (λ clockwork. length (write (automaton clockwork)) ≤ room.left + 2) }
+// A mistake in a line of the text, if there is one, however many numbers its parts have. These are not kept: a text with too many
+// must not take more memory than others.
+fn check_lines(heap: Global, names: &Names, text: &str) -> Result<(), Mistake> {
+    for (index, line) in text.lines().enumerate() {
+        let mut reader = Reader::new(heap, names, index, line, Room::boundless());
+        reader.line(&mut Clockwork::new(heap, 0))?;
+    }
+    Ok(())
+}
+
+fn read_lines(heap: Global, names: &Names, text: &str) -> Result<Clockwork, Mistake>
+    ensures { IfOk result (λ clockwork. length (write (automaton clockwork)) ≤ 16384) }
 {
     let clocks = u32::try_from(names.clocks.len()).unwrap_or(u32::MAX);
+    let mut room = Room::new();
     let mut clockwork = Clockwork::new(heap, clocks);
     for (index, line) in text.lines().enumerate() {
-        let mut reader = Reader {
-            heap,
-            names,
-            cursor: Cursor::new(index, line),
-            room,
-        };
+        let mut reader = Reader::new(heap, names, index, line, room);
         reader.line(&mut clockwork)?;
         room = reader.room;
     }
@@ -269,9 +286,9 @@ fn read_lines(heap: Global, names: &Names, text: &str, mut room: Room) -> Result
 pub fn read_all(heap: Global, names: &Names, text: &str) -> Result<Clockwork, Mistake>
     ensures { IfOk result (λ clockwork. length (write (automaton clockwork)) ≤ 16384) }
 {
-    let read = read_lines(heap, names, text, Room::new());
+    let read = read_lines(heap, names, text);
     if let Err(Mistake::Row(_)) = &read {
-        read_lines(heap, names, text, Room::boundless())?;
+        check_lines(heap, names, text)?;
     }
     read
 }
