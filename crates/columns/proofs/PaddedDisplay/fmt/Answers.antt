@@ -1,4 +1,4 @@
-use Rattle.std.proofs.Common.{◌≡◌, ◌≤◌, length, ap, ◌∙◌, arith, rules}
+use Rattle.std.proofs.Common.{◌≡◌, ◌≤◌, length, ap, ◌∙◌, rules}
 use Rattle.std.specs.Fmt.{styled_text}
 use Rattle.std.specs.Str.{IsUtf8}
 use Rattle.std.proofs.Output.{has_written_of_eq}

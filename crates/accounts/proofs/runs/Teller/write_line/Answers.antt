@@ -1,6 +1,5 @@
-use Rattle.std.proofs.Common.{◌++◌, string_bytes, codes, ap, ◌∙◌, rules}
+use Rattle.std.proofs.Common.{◌++◌, string_bytes, codes, rules}
 use Rattle.clockworks.specs.Meaning.{Adds}
-use Rattle.clockworks.proofs.Writing.{adds_same}
 use Rattle.columns.specs.Columns.{padded}
 use Rattle.accounts.proofs.Told.{line_written}
 use Rattle.accounts.proofs.runs.Teller.write_line.Goals as goal
