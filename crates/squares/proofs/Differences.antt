@@ -1,7 +1,7 @@
 -- What the bound between two cells says of the differences of points, case by case.
 use Rattle.std.proofs.Common.{◌≡◌, ℕ, suc, ◌+◌, ◌*◌, ◌/◌, ◌<◌, ◌≤◌, true, false, not, eqb, ◌⊎◌, ◌↔◌, ℤ, pos, negsuc, ◌+ℤ◌, ◌-ℤ◌, refl, ap, inl, inr, arith, le-ltb, lt-ltb, eq-eqb, ne_eqb}
-use native.Mathlib.Decide.{dec_lt}
 use Rattle.std.proofs.lemmas.Int.{ints}
+use Rattle.regions.proofs.Tests.{ltb_cases}
 use Rattle.cells.specs.declared.values.Cell.{Cell}
 use Rattle.squares.specs.declared.bounds.Bound.TheVariants.{Unbounded, UpTo}
 use Rattle.squares.specs.Differences.{KeepsOver}
@@ -36,11 +36,7 @@ below_over d x y a b = below_by d x y a b (pos a -ℤ pos b) (omega (arith, ints
 
 -- one more, or not
 pub one_if-cases : (m n : ℕ) → ((m < n) × (one_if m n ≡ 1)) ⊎ ((n ≤ m) × (one_if m n ≡ 0))
-one_if-cases m n =
-    elim (dec_lt m n) [
-      | yes h ↦ inl (h, rw (lt-ltb m n h) refl)
-      | no ne ↦ inr (let h : n ≤ m = omega arith in (h, rw (le-ltb m n h) refl))
-    ]
+one_if-cases m n = elim (ltb_cases m n) [ inl h ↦ inl (h.1, rw h.0 refl) | inr h ↦ inr (h.1, rw h.0 refl) ]
 
 -- the bound, by where the clocks are
 module _ (top : ℕ) (c e : Cell) where

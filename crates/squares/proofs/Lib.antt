@@ -1,5 +1,4 @@
 -- What is proved of bounds and squares.
-mod Indices
 mod Tightness
 mod Filling
 mod Differences

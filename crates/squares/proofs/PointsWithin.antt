@@ -1,13 +1,13 @@
 -- A point is within the square of a region just where it shows the region.
 use Rattle.std.proofs.Common.{◌≡◌, ℕ, zero, suc, ◌+◌, ◌*◌, ◌<◌, ◌≤◌, ◌↔◌, refl, inl, inr, arith, ne_eqb}
 use Rattle.regions.specs.Points.{Point, On, Shows}
+use Rattle.regions.proofs.Tests.{eqb_cases}
 use Rattle.cells.specs.declared.values.Region.{Region}
 use Rattle.cells.specs.Meaning.{cell_of, region_value}
 use Rattle.squares.specs.declared.squares.Square.{Square}
 use Rattle.squares.specs.Squares.{entry}
 use Rattle.squares.specs.Differences.{KeepsOver, age_at, rest_at, WithinOver}
 use Rattle.squares.specs.Entries.{Consistent, cell_at, between, bound_at}
-use Rattle.squares.proofs.Indices.{same_or_not}
 use Rattle.squares.proofs.Seen.{Seen, Ordered, nought_seen, seen_keeps, keeps_order, keeps_seen}
 
 positive_by : {x y : ℕ} → (y ≡ 0 → x ≡ 0) → 0 < x → 0 < y
@@ -60,8 +60,8 @@ module _ (n d top : ℕ) (p : Point) (K : Region) (q : Square) (of : Of n top K 
 
     ordered : (i j : ℕ) → i < n → j < n → Ordered top (cell_of K i) (cell_of K j) (p.rest i) (p.rest j)
     ordered i j h g =
-        elim (same_or_not i j) [
-          | inl same ↦ rw same.0 (λ a b. (λ l. absurd (omega arith), λ l. absurd (omega arith)))
+        elim (eqb_cases i j) [
+          | inl same ↦ rw same.1 (λ a b. (λ l. absurd (omega arith), λ l. absurd (omega arith)))
           | inr other ↦
               keeps_order
               top
@@ -76,8 +76,8 @@ module _ (n d top : ℕ) (p : Point) (K : Region) (q : Square) (of : Of n top K 
               (on.rest_below j g)
               (seen i h)
               (seen j g)
-              (kept (suc i) (suc j) h g (λ e. other.0 (omega arith)))
-              (kept (suc j) (suc i) g h (λ e. other.0 (omega arith)))
+              (kept (suc i) (suc j) h g (λ e. other.1 (omega arith)))
+              (kept (suc j) (suc i) g h (λ e. other.1 (omega arith)))
         ]
 
   within_shows : p.location ≡ (region_value K).location → WithinOver n d p q → Shows n top p (region_value K)
@@ -106,11 +106,11 @@ module _ (n d top : ℕ) (p : Point) (K : Region) (q : Square) (of : Of n top K 
 
     shows_within : WithinOver n d p q
     shows_within i j h g =
-        elim (same_or_not i j) [
-          | inl same ↦ rw (of.bounds i j h g, same.1, same.0) (omega arith)
+        elim (eqb_cases i j) [
+          | inl same ↦ rw (of.bounds i j h g, same.0, same.1) (omega arith)
           | inr other ↦
               rw
-              (off_diagonal n top K q i j of h g other.0)
+              (off_diagonal n top K q i j of h g other.1)
               (seen_keeps
               top
               d

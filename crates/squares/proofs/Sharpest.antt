@@ -2,6 +2,7 @@
 use Rattle.std.proofs.Common.{◌≡◌, ℕ, ◌+◌, ◌*◌, ◌/◌, ◌≤◌, Bool, true, false, not, ◌||◌, eqb, pos, ◌+ℤ◌, ◌-ℤ◌, sym, refl, inl, inr, arith, eq-eqb}
 use native.Mathlib.Decide.{dec_lt}
 use Rattle.std.proofs.lemmas.Int.{ints}
+use Rattle.regions.proofs.Tests.{eqb_cases}
 use Rattle.cells.specs.declared.values.Cell.{Cell}
 use Rattle.cells.specs.declared.values.Region.{Region}
 use Rattle.squares.specs.declared.bounds.Bound.{Bound}
@@ -11,7 +12,6 @@ use Rattle.squares.specs.Bounds.{sum, Sharper}
 use Rattle.squares.specs.Squares.{entry, Tight}
 use Rattle.squares.specs.Entries.{cell_at, one_if, between}
 use Rattle.squares.proofs.Differences.{one_if-cases, first_beyond, second_beyond, none_beyond}
-use Rattle.squares.proofs.Indices.{same_or_not}
 use Rattle.squares.proofs.PointsWithin.{Of, off_diagonal}
 
 -- bounds by differences of naturals
@@ -48,8 +48,8 @@ module _ (top : ℕ) (c f e : Cell) where
       → (not (eqb c.rank f.rank) || not (eqb f.rank e.rank)) ≡ true
       → not (eqb c.rank e.rank) ≡ true
   strict_by le s =
-      elim (same_or_not c.rank e.rank) [
-        | inr other ↦ rw other.1 refl
+      elim (eqb_cases c.rank e.rank) [
+        | inr other ↦ rw other.0 refl
         | inl same ↦
             let cases = one_if-cases f.rank c.rank in
             let cases' = one_if-cases e.rank f.rank in
@@ -171,20 +171,20 @@ square_tight n top K q room of = record { room = room; sharpest = sharpest }
 
     sharpest : (i j k : ℕ) → i ≤ n → j ≤ n → k ≤ n → Sharper (sum (entry q i k) (entry q k j)) (entry q i j) → ⊥
     sharpest i j k h g l =
-        elim (same_or_not i k) [
-          | inl same ↦ rw (on_diagonal i k h l same.0, sym same.0) (not_sharper_before (entry q i j))
+        elim (eqb_cases i k) [
+          | inl same ↦ rw (on_diagonal i k h l same.1, sym same.1) (not_sharper_before (entry q i j))
           | inr other ↦
-              elim (same_or_not k j) [
-                | inl same ↦ rw (on_diagonal k j l g same.0, same.0) (not_sharper_behind (entry q i j))
+              elim (eqb_cases k j) [
+                | inl same ↦ rw (on_diagonal k j l g same.1, same.1) (not_sharper_behind (entry q i j))
                 | inr other' ↦
-                    elim (same_or_not i j) [
+                    elim (eqb_cases i j) [
                       | inl same ↦
                           rw
-                          (on_diagonal i j h g same.0, off_diagonal n top K q i k of h l other.0, off_diagonal n top K q k j of l g other'.0, sym same.0)
+                          (on_diagonal i j h g same.1, off_diagonal n top K q i k of h l other.1, off_diagonal n top K q k j of l g other'.1, sym same.1)
                           (and_back top (cell_at K i) (cell_at K k))
                       | inr other'' ↦
                           rw
-                          (off_diagonal n top K q i j of h g other''.0, off_diagonal n top K q i k of h l other.0, off_diagonal n top K q k j of l g other'.0)
+                          (off_diagonal n top K q i j of h g other''.1, off_diagonal n top K q i k of h l other.1, off_diagonal n top K q k j of l g other'.1)
                           (by_way top (cell_at K i) (cell_at K k) (cell_at K j))
                     ]
               ]

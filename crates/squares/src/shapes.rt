@@ -34,10 +34,11 @@ fn has_consistent_cells(region: &Region, frame: Frame) -> bool
 fn cell_at(region: &Region, index: usize) -> Cell
     ensures { result ≡ cell_at region.now index }
 {
-    match index.checked_sub(1) {
-        Some(clock) => region.cells.get(clock).copied().unwrap_or(Cell::ZERO),
-        None => Cell::ZERO,
-    }
+    index
+        .checked_sub(1)
+        .and_then(|clock| region.cells.get(clock))
+        .copied()
+        .unwrap_or(Cell::ZERO)
 }
 
 // The bound on a clock of the first cell less one of the second.
