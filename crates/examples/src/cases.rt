@@ -1,11 +1,15 @@
 // Rows with known answers and a known number of kinds: the answers at just that number, and at one less.
+ghost use Rattle.std.specs.Prelude.{IfOk, vec_len};
+ghost use Rattle.examples.specs.Trying.{Grew};
+
 use crate::answers::{NoAnswer, Written};
 use crate::report::{Report, Tester};
 use clocks::answers::{Asked, ask, look_up};
 use search::explores::explore;
-use std::alloc::{AllocError, AllocFailed, Global};
+use std::alloc::{AllocError, Global};
 use std::mem;
 use std::num::ParseIntError;
+use thiserror::Error;
 
 #[derive(Drop)]
 pub struct Case {
@@ -25,9 +29,11 @@ impl Case {
 }
 
 // Why a line cannot be read.
-#[derive(Clone, Copy)]
+#[derive(Debug, Clone, Copy, Error)]
 pub enum Flaw {
-    Memory,
+    #[error("there is not enough memory for the cases")]
+    Memory(#[from(alloc)] AllocError),
+    #[error("no part of a case")]
     NoPart,
 }
 
@@ -38,19 +44,7 @@ pub struct Mistake {
     pub flaw: Flaw,
 }
 
-// By hand: thiserror's `#[from(alloc)]` wants a variant that holds the error, and nothing is told of it but that there was no memory.
-impl From<AllocError> for Flaw {
-    fn from(_e: AllocError) -> Flaw {
-        Flaw::Memory
-    }
-}
-
-impl<T: Drop> From<AllocFailed<T>> for Flaw {
-    fn from(_e: AllocFailed<T>) -> Flaw {
-        Flaw::Memory
-    }
-}
-
+// By hand, and the next: one variant takes both, which no `#[from]` does.
 impl From<ParseIntError> for Flaw {
     fn from(_e: ParseIntError) -> Flaw {
         Flaw::NoPart
@@ -127,6 +121,7 @@ pub(crate) fn expect_each<F: FnMut(usize) -> Asked>(
     mut answer: F,
 ) -> Result<(), AllocError>
     requires { F.IsAlwaysCallable answer }
+    ensures { IfOk result (λ _. Grew (vec_len case.now.answers) report.old.tally report.new.tally) }
 {
     for (position, expected) in case.answers.iter().enumerate() {
         report.expect(what, position, *expected, answer(position))?;

@@ -6,7 +6,7 @@ use clocks::answers::{Asked, look_up};
 use drawing::Drawing;
 use search::explores::explore;
 use std::alloc::{AllocError, Global};
-use std::fmt;
+use thiserror::Error;
 
 // A line that begins so says an answer: `# answer: struck after 2`, or one for all: `# answer: every position at 0`.
 const MARK: &str = "# answer: ";
@@ -33,6 +33,7 @@ impl<'a> Expectation<'a> {
         Some(Expectation { position, answer })
     }
 
+    // Not by `is_none_or`, here and below: tried, and open stayed what it requires of the closure, that the bytes of its text are UTF-8.
     fn is_about(&self, position: &str) -> bool {
         let Some(name) = self.position else {
             return true;
@@ -49,19 +50,12 @@ impl<'a> Expectation<'a> {
 }
 
 // Why no one answer is said for a position.
-#[derive(Clone, Copy)]
+#[derive(Debug, Clone, Copy, Error)]
 enum Doubt {
+    #[error("no line says what is expected")]
     Nowhere,
+    #[error("two lines say what is expected")]
     Twice,
-}
-
-impl fmt::Display for Doubt {
-    fn fmt<W: fmt::Write>(&self, f: &mut fmt::Formatter<W>) -> fmt::Result {
-        f.write_str(match self {
-            Doubt::Nowhere => "no line says what is expected",
-            Doubt::Twice => "two lines say what is expected",
-        })
-    }
 }
 
 // What the text says about a position.

@@ -1,5 +1,6 @@
 // The edges of a call: too few words, positions that are not there, words that hold anything, rows that are no clockwork's.
-ghost use Rattle.std.specs.Prelude.{◌≡◌, length};
+ghost use Rattle.std.specs.Prelude.{◌≡◌, ◌+◌, ◌-◌, ◌*◌, ◌^◌, ◌<◌, ◌≤◌, ◌⊎◌, ℕ, get_or, length, min, IfOk, vec_len};
+ghost use Rattle.examples.specs.Trying.{Grew};
 
 use crate::cases::{Case, expect_each};
 use crate::report::Tester;
@@ -15,7 +16,8 @@ fn stripes(place: usize) -> u32 {
 
 fn fill<F: Fn(usize) -> u32>(work: &mut [u32], word: F)
     requires { F.IsAlwaysCallable word }
-    ensures { length work.new ≡ length work.old }
+    ensures length { length work.new ≡ length work.old }
+    ensures words { (place : ℕ) → place < length work.new → F.post word place (get_or work.new place 0) }
 {
     for (place, at) in work.iter_mut().enumerate() {
         *at = word(place);
@@ -24,7 +26,10 @@ fn fill<F: Fn(usize) -> u32>(work: &mut [u32], word: F)
 
 // At one word less than enough, and at the largest number of kinds, every position gets few, also one that is not there; at
 // enough none does.
-pub fn check_few(tester: &mut Tester, case: &Case) -> Result<(), AllocError> {
+pub fn check_few(tester: &mut Tester, case: &Case) -> Result<(), AllocError>
+    ensures few { IfOk result (λ _. Grew 4 tester.old.report.tally tester.new.report.tally) }
+    ensures enough { IfOk result (λ _. Grew (4 + vec_len case.now.answers) tester.old.report.tally tester.new.report.tally ⊎ (min (tester.old.report.tally.differences + 1) (2 ^ 64 - 1) ≤ tester.new.report.tally.differences)) }
+{
     let Tester { report, work } = tester;
     let work = work.as_mut_slice();
     let row = case.row.as_slice();
@@ -47,7 +52,9 @@ pub fn check_few(tester: &mut Tester, case: &Case) -> Result<(), AllocError> {
 }
 
 // The position after the last and the largest number, where the answers are known and where there are too many kinds.
-pub fn check_places(tester: &mut Tester, case: &Case) -> Result<(), AllocError> {
+pub fn check_places(tester: &mut Tester, case: &Case) -> Result<(), AllocError>
+    ensures { IfOk result (λ _. Grew 6 tester.old.report.tally tester.new.report.tally) }
+{
     let row = case.row.as_slice();
     for position in [case.answers.len(), usize::MAX] {
         for kinds in [case.kinds, case.kinds.saturating_sub(1), 0] {
@@ -67,6 +74,7 @@ fn check_filled<F: Fn(usize) -> u32>(
     word: F,
 ) -> Result<(), AllocError>
     requires { F.IsAlwaysCallable word }
+    ensures { IfOk result (λ _. Grew (vec_len case.now.answers) tester.old.report.tally tester.new.report.tally) }
 {
     let Tester { report, work } = tester;
     fill(work.as_mut_slice(), word);
@@ -77,7 +85,9 @@ fn check_filled<F: Fn(usize) -> u32>(
 }
 
 // Whatever the words hold, the answers are the same.
-pub fn check_garbage(tester: &mut Tester, case: &Case) -> Result<(), AllocError> {
+pub fn check_garbage(tester: &mut Tester, case: &Case) -> Result<(), AllocError>
+    ensures { IfOk result (λ _. Grew (4 * vec_len case.now.answers) tester.old.report.tally tester.new.report.tally) }
+{
     check_filled(tester, case, |_| 0)?;
     check_filled(tester, case, |_| u32::MAX)?;
     check_filled(tester, case, |place| (place & 0xffff_ffff) as u32)?;
@@ -85,7 +95,9 @@ pub fn check_garbage(tester: &mut Tester, case: &Case) -> Result<(), AllocError>
 }
 
 // The same call again, on the words that the first one left.
-pub fn check_twice(tester: &mut Tester, case: &Case) -> Result<(), AllocError> {
+pub fn check_twice(tester: &mut Tester, case: &Case) -> Result<(), AllocError>
+    ensures { IfOk result (λ _. Grew (2 * vec_len case.now.answers) tester.old.report.tally tester.new.report.tally) }
+{
     for (position, expected) in case.answers.iter().enumerate() {
         fill(tester.work.as_mut_slice(), stripes);
         for what in ["first call", "second call"] {
@@ -116,6 +128,7 @@ fn check_damage<F: FnOnce(&mut Vec<u32>) -> Result<(), AllocFailed<u32>>>(
     damage: F,
 ) -> Result<(), AllocError>
     requires { F.IsAlwaysCallable damage }
+    ensures { IfOk result (λ _. Grew 1 tester.old.report.tally tester.new.report.tally) }
 {
     let Ok(row) = broken(heap, case.row.as_slice(), damage) else {
         return tester.report.fault("not enough memory");
@@ -130,7 +143,9 @@ fn check_damage<F: FnOnce(&mut Vec<u32>) -> Result<(), AllocFailed<u32>>>(
 }
 
 // Broken rows: empty, a word less, a word more, and the largest number for how many clocks, positions or tests there are.
-pub fn check_broken(heap: Global, tester: &mut Tester, case: &Case) -> Result<(), AllocError> {
+pub fn check_broken(heap: Global, tester: &mut Tester, case: &Case) -> Result<(), AllocError>
+    ensures { IfOk result (λ _. Grew 6 tester.old.report.tally tester.new.report.tally) }
+{
     check_damage(heap, tester, case, |row| {
         row.clear();
         Ok(())

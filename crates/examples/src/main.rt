@@ -94,22 +94,11 @@ fn check_rows(heap: Global, tester: &mut Tester, text: &str) -> Result<(), Alloc
             check_cases(tester, cases.as_slice())?;
             check_limits(heap, tester, cases.as_slice())
         }
-        Err(
-            Mistake {
-                flaw: Flaw::Memory,
-                ..
-            },
-        ) => tester
-            .report
-            .fault("there is not enough memory for the cases"),
-        Err(
-            Mistake {
-                flaw: Flaw::NoPart,
-                line,
-            },
-        ) => {
-            write!(tester.report.text, "cases.txt, line {line}:\n")?;
-            tester.report.fault("no part of a case")
+        Err(Mistake { line, flaw }) => {
+            if let Flaw::NoPart = flaw {
+                write!(tester.report.text, "cases.txt, line {line}:\n")?;
+            }
+            tester.report.fault(flaw)
         }
     }
 }

@@ -1,6 +1,7 @@
 // What was tried and how often it came out otherwise than expected, with the text that tells it.
 ghost use Rattle.std.specs.Prelude.{◌≡◌, ◌+◌, ◌-◌, ◌^◌, min, cond, ◌≢◌, vec_len};
 ghost use Rattle.clocks.specs.Asked.{AskedPost};
+ghost use Rattle.examples.specs.Trying.{Grew};
 
 use crate::answers::Written;
 use clocks::answers::{Asked, ask};
@@ -62,19 +63,26 @@ impl Report {
         }
     }
 
-    pub fn line(&mut self, text: &str) -> Result<(), AllocError> {
+    pub fn line(&mut self, text: &str) -> Result<(), AllocError>
+        ensures { self.new.tally ≡ self.old.tally }
+    {
         self.text.push_str(text)?;
         self.text.push_str("\n")
     }
 
     // What was tried since an earlier tally.
-    pub fn sum_up(&mut self, what: &str, earlier: Tally) -> Result<(), AllocError> {
+    pub fn sum_up(&mut self, what: &str, earlier: Tally) -> Result<(), AllocError>
+        ensures { self.new.tally ≡ self.old.tally }
+    {
         let tally = self.tally.since(earlier);
         write!(self.text, "{what}: {tally}\n")
     }
 
     // A thing that went wrong, which counts as a difference.
-    pub fn fault<D: fmt::Display + Drop>(&mut self, what: D) -> Result<(), AllocError> {
+    pub fn fault<D: fmt::Display + Drop>(&mut self, what: D) -> Result<(), AllocError>
+        ensures grew { Grew 1 self.old.tally self.new.tally }
+        ensures difference { self.new.tally.differences ≡ min (self.old.tally.differences + 1) (2 ^ 64 - 1) }
+    {
         self.tally = self.tally.with(false);
         write!(self.text, "  DIFFERENCE: {what}\n")
     }
@@ -87,6 +95,7 @@ impl Report {
         expected: Asked,
         got: Asked,
     ) -> Result<(), AllocError>
+        ensures grew { Grew 1 self.old.tally self.new.tally }
         ensures as_expected { expected ≡ got → self.new.tally.differences ≡ self.old.tally.differences }
         ensures difference { (expected ≢ got) → self.new.tally.differences ≡ min (self.old.tally.differences + 1) (2 ^ 64 - 1) }
     {

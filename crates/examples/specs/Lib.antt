@@ -1,0 +1,2 @@
+-- What was tried and what is counted of it.
+pub mod Trying
