@@ -1,7 +1,6 @@
 // The second opinion on an automaton: for each position the answer, and what the grid says of it.
-ghost use Rattle.std.specs.Prelude.{◌≡◌, option_map, IfOk, All};
-ghost use Rattle.sixtieths.specs.Opinions.{differing};
-ghost use Rattle.sixtieths.specs.Judging.{Judged, kind_is};
+ghost use Rattle.std.specs.Prelude.{◌≡◌, IfOk, vec_len};
+ghost use Rattle.sixtieths.specs.Opinions.{OpinionIs, AllOpinions, differing};
 
 use crate::comparison::{Finding, Kind, judge, kind_of};
 use crate::grid_search::{Space, search};
@@ -40,8 +39,7 @@ pub struct Opinion {
 impl Opinion {
     fn new(asked: Asked, has_way: bool, first: Option<First>) -> Self
         ensures given { (result.asked ≡ asked) × (result.first ≡ first) }
-        ensures kind { result.kind ≡ kind_is asked has_way }
-        ensures finding { Judged asked (option_map (λ f. f.time) first) result.finding }
+        ensures judged { OpinionIs has_way result }
     {
         Opinion {
             asked,
@@ -84,7 +82,10 @@ fn first_at(
 }
 
 // An opinion for each position.
-pub fn opinions(heap: Global, space: Space<'_>, work: &mut [u32]) -> Result<Vec<Opinion>, Fault> {
+pub fn opinions(heap: Global, space: Space<'_>, work: &mut [u32]) -> Result<Vec<Opinion>, Fault>
+    ensures judged { IfOk result (λ all. AllOpinions all.items) }
+    ensures all { IfOk result (λ all. vec_len all ≡ space.entry.automaton.locations) }
+{
     let automaton = &space.automaton;
     let ways = find_ways(heap, automaton)?;
     let visits = search(heap, space)?;

@@ -1,9 +1,10 @@
 // What keeps the program from going on is told on standard error.
-ghost use Rattle.std.specs.Prelude.{◌≡◌, ◌<◌, ◌≤◌, IsErrAnd, IfOk, MatchOption};
+ghost use Rattle.std.specs.Prelude.{◌≡◌, ◌<◌, ◌≤◌, IsErrAnd, IfOk, IfSome, MatchOption};
 ghost use Rattle.std.specs.IoError.{error_kind};
 ghost use Rattle.automata.specs.Automata.{Automaton};
 ghost use Rattle.automata.specs.Rows.{Reads};
 ghost use Rattle.rows.specs.Viewed.{value_of};
+ghost use Rattle.sixtieths.specs.Opinions.{AllOpinions};
 ghost use Rattle.sixtieths.specs.Spaces.{states_of};
 
 use crate::grid_search::Space;
@@ -32,7 +33,9 @@ pub fn opinions_on(
 ) -> io::Result<Option<Vec<Opinion>>>
     ensures row { IfOk result (λ _. (a : Automaton) × Reads row.now a) }
     ensures held { IfOk result (λ all. MatchOption all (4000000 < states_of (value_of row.now)) (λ _. states_of (value_of row.now) ≤ 4000000)) }
+    ensures judged { IfOk result (λ all. IfSome all (λ opinions. AllOpinions opinions.items)) }
 {
+    // A match: with `or_else` the borrow checker stops, as its result names a lifetime that neither captures nor arguments name.
     let automaton = match reader::read(row) {
         Ok(automaton) => automaton,
         Err(refusal) => {
@@ -48,8 +51,8 @@ pub fn opinions_on(
     let Some(space) = Space::new(automaton) else {
         return Ok(None);
     };
-    let all = opinions(rt.alloc(), space, work).or_else(|fault| {
-        fail(rt, io::ErrorKind::Other, format_args!("sixtieths: {fault}"))
-    })?;
-    Ok(Some(all))
+    match opinions(rt.alloc(), space, work) {
+        Ok(all) => Ok(Some(all)),
+        Err(fault) => fail(rt, io::ErrorKind::Other, format_args!("sixtieths: {fault}")),
+    }
 }
