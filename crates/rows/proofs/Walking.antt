@@ -1,10 +1,11 @@
 -- Going over a row word by word: what each step says of the reading from there on.
-use Rattle.std.proofs.Common.{◌≡◌, ℕ, zero, suc, ◌+◌, ◌-◌, ◌<◌, ◌≤◌, true, List, [], ◌∷◌, length, get_or, drop, Ok, Err, Result, refl, ap, ◌∙◌, subst, zero-add, add-one, arith, length-append, length-drop, drop_of_length-le, drop-cons, le-ltb, lt-ltb}
+use Rattle.std.proofs.Common.{◌≡◌, ℕ, zero, suc, ◌+◌, ◌-◌, ◌<◌, ◌≤◌, true, List, [], ◌∷◌, length, get_or, drop, Ok, Err, Result, refl, ap, ◌∙◌, subst, zero-add, add-one, arith, length-append, length-drop, drop_of_length-le, drop-cons, le-ltb, lt-ltb, inl, inr}
+use Rattle.std.proofs.lemmas.Bool.{cases_lt}
 use mathlib.Core.Option.{some, none}
 use Rattle.automata.specs.Automata.{Constraint, Edge}
 use Rattle.rows.specs.Parse.{Outcome, prepend, and_then, upper_only, all_relations, fits, constraint, parse_constraints, parse_conjunction, parse_invariants, parse_clocks, parse_resets, parse_edge, parse_edges}
 use Rattle.rows.specs.declared.refusals.Refusal.{Refusal}
-use Rattle.rows.specs.Reading.{Leads, Repeats, RepeatCases, Repeated, Step, Tells}
+use Rattle.rows.specs.Reading.{Leads, Repeats, RepeatCases, Repeated, Counted, Step, Tells}
 use Rattle.automata.specs.Rows.{fine_edge}
 use Rattle.rows.specs.Parts.{edge_words}
 use Rattle.rows.proofs.Round.{Written, written_edge}
@@ -100,6 +101,19 @@ pub each-tells : {A : Type 0} {call : ℕ → Result ℕ Refusal → Type 0} (pa
     → from ≤ length row
     → Tells whole row at r
 each-tells {call = call} parse row whole v at count from r run step none_of_it e h i = each parse row call step whole v at count from none_of_it e h i r run.cases
+
+pub counted-tells : {A : Type 0} {call : ℕ → Result ℕ Refusal → Type 0} (parse : ℕ → List ℕ → Outcome A) (row : List ℕ) (whole : List ℕ → Outcome A) (v : A) (at : ℕ) (r : Result ℕ Refusal)
+    → Counted call row at r
+    → ((next : ℕ) (x : Result ℕ Refusal) → call next x → Step parse row next x)
+    → ((ws : List ℕ) → parse 0 ws ≡ some (v, ws))
+    → (length row ≤ at → whole (drop at row) ≡ none)
+    → (at < length row → whole (drop at row) ≡ parse (get_or row at 0) (drop (at + 1) row))
+    → Tells whole row at r
+counted-tells parse row whole v at r run step none_of_it ends starts =
+    elim (cases_lt at (length row)) [
+      | inl h ↦ each-tells parse row whole v at (get_or row at 0) (at + 1) r (run.there h) step none_of_it (starts h) (omega arith) (omega arith)
+      | inr h ↦ rw (run.missing h) (ends h, refl)
+    ]
 
 -- a constraint
 few_words : (n r k : ℕ) (ws : List ℕ) → length ws < 3 → parse_constraints n r (suc k) ws ≡ none

@@ -1,5 +1,5 @@
 -- What the parts of a row say, against the automaton that it is the writing of.
-use Rattle.std.specs.Prelude.{◌≡◌, ℕ, ◌≤◌, Bool, List, ◌∷◌, ◌++◌, length, drop, codes, Some, None, Option, Ok, Err, Result}
+use Rattle.std.specs.Prelude.{◌≡◌, ℕ, ◌<◌, ◌≤◌, Bool, List, ◌∷◌, ◌++◌, length, drop, codes, Some, None, Option, Ok, Err, Result}
 use Rattle.std.specs.Ordering.{is_lt, is_le, is_gt, is_ge}
 use Rattle.std.specs.declared.cmp.Ordering.{Ordering}
 use Rattle.std.proofs.Math.Option as option
@@ -61,6 +61,10 @@ edge_words e rest =
     ∷ e.target
     ∷ length e.guard
     ∷ (write_constraints e.guard ++ (length e.resets ∷ (e.resets ++ rest)))
+
+-- the part that begins at `at` ends behind its beginning, within the row
+abbrev pub Behind : {A : Type 0} → List ℕ → ℕ → A × ℕ → Type 0
+Behind row at part = (at < part.1) × (part.1 ≤ length row)
 
 -- the part is the writing of the constraints, and behind it stands the rest
 abbrev pub ConjunctionAt : List ℕ → List automata.Constraint → List ℕ → Option (Conjunction × ℕ) → Type 0

@@ -1,5 +1,5 @@
 -- What the functions that go over a row tell: where a part ends, or which rule the row breaks and at which word.
-use Rattle.std.specs.Prelude.{◌≡◌, ℕ, zero, suc, ◌<◌, ◌≤◌, List, length, drop, Ok, Err, Result, slice_index}
+use Rattle.std.specs.Prelude.{◌≡◌, ℕ, zero, suc, ◌+◌, ◌<◌, ◌≤◌, List, length, drop, Ok, Err, Result, slice_index}
 use Rattle.std.proofs.Math.Option.{some, none}
 use Rattle.automata.specs.Automata as automata
 use Rattle.automata.specs.Rows.{Reads}
@@ -23,6 +23,15 @@ Wrong row LowerBound w = (w < length row) × (2 ≤ slice_index row w)
 Wrong row Bound w = (w < length row) × (10000 < slice_index row w)
 Wrong row Location w = (w < length row) × (slice_index row 1 ≤ slice_index row w)
 
+-- the refusal of a row that ends too soon
+abbrev pub ends_at : List ℕ → Refusal
+ends_at row = record { rule = Ends; word = length row }
+
+-- the word at a place, or the row ends before
+abbrev pub WordAt : List ℕ → ℕ → Result ℕ Refusal → Type 0
+WordAt row at (Ok word) = (at < length row) × (word ≡ slice_index row at)
+WordAt row at (Err f) = (length row ≤ at) × (f ≡ ends_at row)
+
 -- reading that goes on as x gives what y gives
 pub record Leads {A B : Type 0} (x : Outcome A) (y : Outcome B) : Type 0 where
   pub fails : x ≡ none → y ≡ none
@@ -41,6 +50,11 @@ RepeatCases call count from (Err f) =
 
 pub record Repeated (call : ℕ → Result ℕ Refusal → Type 0) (count from : ℕ) (r : Result ℕ Refusal) : Type 0 where
   pub cases : RepeatCases call count from r
+
+-- as many calls as the word at `at` says, from the word behind it on; or the row ends before
+pub record Counted (call : ℕ → Result ℕ Refusal → Type 0) (row : List ℕ) (at : ℕ) (r : Result ℕ Refusal) : Type 0 where
+  pub there : at < length row → Repeated call (slice_index row at) (at + 1) r
+  pub missing : length row ≤ at → r ≡ Err (ends_at row)
 
 -- one element more of a list that is read by its number of elements
 abbrev pub Step : {A : Type 0} → (ℕ → List ℕ → Outcome A) → List ℕ → ℕ → Result ℕ Refusal → Type 0

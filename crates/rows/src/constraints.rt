@@ -1,12 +1,12 @@
 // Constraints on clocks, by value, and lists of them as parts of a row.
-ghost use Rattle.std.specs.Prelude.{◌≡◌, ℕ, ◌<◌, ◌≤◌, List, ◌∷◌, ◌++◌, length, drop, codes, decimal, nat_lt, Some, IfSome};
+ghost use Rattle.std.specs.Prelude.{◌≡◌, ℕ, List, ◌∷◌, ◌++◌, length, drop, codes, decimal, nat_lt, Some, IfSome};
 ghost use Rattle.std.specs.Iterator.{at_most};
 ghost use Rattle.automata.specs.Rows.{write_constraints};
 ghost use Rattle.automata.specs.Automata.{nth};
 ghost use Rattle.automata.specs.Automata as automata;
 ghost use Rattle.automata.specs.Rows.{code, upper};
 ghost use Rattle.rows.specs.Parse.{relation_of};
-ghost use Rattle.rows.specs.Parts.{relation_value, relation_text, RelationRead, relates, relations_of, ConstraintIs, ConjunctionAt};
+ghost use Rattle.rows.specs.Parts.{relation_value, relation_text, RelationRead, relates, relations_of, ConstraintIs, ConjunctionAt, Behind};
 ghost use Rattle.rows.specs.Values.{constraints_value, conjunction_value, NextConstraint};
 
 use crate::counted::part_at;
@@ -87,10 +87,7 @@ impl Relation {
     pub fn bounds_above(self) -> bool
         ensures { result ≡ upper (relation_value self) }
     {
-        match self {
-            Relation::AtMost | Relation::Below => true,
-            Relation::AtLeast | Relation::Above => false,
-        }
+        matches!(self, Relation::AtMost | Relation::Below)
     }
 
     // Whether the value stands so to the bound.
@@ -215,7 +212,7 @@ impl<'a> Iterator for Constraints<'a> {
 // The constraints whose number stands at `at`, and the place behind them; none where the row ends before.
 pub fn conjunction_at(row: &[u32], at: usize) -> Option<(Conjunction<'_>, usize)>
     ensures part { (cs : List automata.Constraint) (rest : List ℕ) → drop at row.now ≡ length cs ∷ (write_constraints cs ++ rest) → ConjunctionAt row.now cs rest result }
-    ensures further { IfSome result (λ c. (at < c.1) × (c.1 ≤ length row.now)) }
+    ensures further { IfSome result (Behind row.now at) }
 {
     let (words, end) = part_at(row, at, 3)?;
     Some((Conjunction { words }, end))

@@ -1,7 +1,7 @@
 // Edges, as parts of a row.
-ghost use Rattle.std.specs.Prelude.{◌≡◌, ℕ, ◌<◌, ◌≤◌, List, length, drop, IfSome};
+ghost use Rattle.std.specs.Prelude.{◌≡◌, ℕ, List, drop, IfSome};
 ghost use Rattle.automata.specs.Automata as automata;
-ghost use Rattle.rows.specs.Parts.{edge_words};
+ghost use Rattle.rows.specs.Parts.{edge_words, Behind};
 ghost use Rattle.rows.specs.EdgeParts.{EdgeAt};
 
 use crate::constraints::{Conjunction, conjunction_at};
@@ -23,7 +23,7 @@ pub struct Edge<'a> {
 // The edge that begins at `at`, and the place behind it; none where the row ends before.
 pub fn edge_at(row: &[u32], at: usize) -> Option<(Edge<'_>, usize)>
     ensures part { (e : automata.Edge) (rest : List ℕ) → drop at row.now ≡ edge_words e rest → EdgeAt row.now e rest result }
-    ensures further { IfSome result (λ v. (at < v.1) × (v.1 ≤ length row.now)) }
+    ensures further { IfSome result (Behind row.now at) }
 {
     if at > row.len() || row.len() - at < 2 {
         return None;

@@ -2,7 +2,7 @@
 ghost use Rattle.std.specs.Prelude.{◌≡◌, ℕ, suc, ◌+◌, ◌<◌, ◌≤◌, length, slice_index};
 ghost use Rattle.rows.specs.Parse.{parse_constraints, parse_conjunction, parse_invariants, parse_clocks, parse_resets, parse_edge, parse_edges};
 ghost use Rattle.rows.specs.Parts.{relations_of};
-ghost use Rattle.rows.specs.Reading.{Repeated, Step, Tells, TellsEnd, ReadPost};
+ghost use Rattle.rows.specs.Reading.{ends_at, WordAt, Repeated, Counted, Step, Tells, TellsEnd, ReadPost};
 ghost use Rattle.rows.specs.Standing.{ValuesStand};
 ghost use Rattle.rows.specs.Statements.{RowsRound};
 
@@ -37,13 +37,39 @@ struct Reader<'a> {
 }
 
 impl Reader<'_> {
+    // That the row ends too soon.
+    fn ends(&self) -> Refusal
+        ensures { result ≡ ends_at self.now.row.now }
+    {
+        Rule::Ends.at(self.row.len())
+    }
+
+    // The word at a place.
+    fn word(&self, at: usize) -> Result<u32, Refusal>
+        ensures { WordAt self.now.row.now at result }
+    {
+        self.row.get(at).copied().ok_or(self.ends())
+    }
+
+    // A number of parts, and these, each where the one before ends: where the last ends.
+    fn check_counted<F: Fn(usize) -> Result<usize, Refusal>>(
+        &self,
+        at: usize,
+        check: F,
+    ) -> Result<usize, Refusal>
+        requires { F.IsAlwaysCallable check }
+        ensures { Counted (F.post check) self.now.row.now at result }
+    {
+        check_each(self.word(at)?, at + 1, check)
+    }
+
     // The three words of a constraint: where they end.
     fn check_constraint(&self, at: usize, owner: Owner) -> Result<usize, Refusal>
         ensures { Step (parse_constraints self.now.clocks (relations_of owner)) self.now.row.now at result }
     {
         let row = self.row;
         if at > row.len() || row.len() - at < 3 {
-            return Err(Rule::Ends.at(row.len()));
+            return Err(self.ends());
         }
         if row[at] >= self.clocks {
             return Err(Rule::Clock.at(at));
@@ -62,11 +88,7 @@ impl Reader<'_> {
     fn check_conjunction(&self, at: usize, owner: Owner) -> Result<usize, Refusal>
         ensures { Tells (parse_conjunction self.now.clocks (relations_of owner)) self.now.row.now at result }
     {
-        let row = self.row;
-        if at >= row.len() {
-            return Err(Rule::Ends.at(row.len()));
-        }
-        check_each(row[at], at + 1, |next| self.check_constraint(next, owner))
+        self.check_counted(at, |next| self.check_constraint(next, owner))
     }
 
     // The invariants of all locations, from the third word on: where they end.
@@ -84,11 +106,7 @@ impl Reader<'_> {
     fn check_clock(&self, at: usize) -> Result<usize, Refusal>
         ensures { Step (parse_clocks self.now.clocks) self.now.row.now at result }
     {
-        let row = self.row;
-        if at >= row.len() {
-            return Err(Rule::Ends.at(row.len()));
-        }
-        if row[at] >= self.clocks {
+        if self.word(at)? >= self.clocks {
             return Err(Rule::Clock.at(at));
         }
         Ok(at + 1)
@@ -98,11 +116,7 @@ impl Reader<'_> {
     fn check_resets(&self, at: usize) -> Result<usize, Refusal>
         ensures { Tells (parse_resets self.now.clocks) self.now.row.now at result }
     {
-        let row = self.row;
-        if at >= row.len() {
-            return Err(Rule::Ends.at(row.len()));
-        }
-        check_each(row[at], at + 1, |next| self.check_clock(next))
+        self.check_counted(at, |next| self.check_clock(next))
     }
 
     // An edge: where it ends.
@@ -111,7 +125,7 @@ impl Reader<'_> {
     {
         let row = self.row;
         if at > row.len() || row.len() - at < 2 {
-            return Err(Rule::Ends.at(row.len()));
+            return Err(self.ends());
         }
         if row[at] >= self.locations {
             return Err(Rule::Location.at(at));

@@ -19,7 +19,7 @@ returns-then-at-row c =
       | then-at-row-via-then-at-row w ↦ omega (arith, w.if-at-row.true)
       | then-at-row-via-else-at-row+then-row-at-lt3 w ↦ omega (arith, w.if-at-row.false, w.if-row-at-lt3.true)
     ] in
-    rw c.at.ensures (constraint-ends c.args.self.now.clocks (relations_of c.args.owner) c.args.self.now.row.now c.args.at short, refl)
+    rw c.ends.ensures (constraint-ends c.args.self.now.clocks (relations_of c.args.owner) c.args.self.now.row.now c.args.at short, refl)
 
 -- a relation that was read has the number that stands there
 word_of : (P : UnknownRelation → Type 0) (word : ℕ) (read : Result Relation UnknownRelation) (r : Relation)

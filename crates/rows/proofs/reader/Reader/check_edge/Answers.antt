@@ -13,12 +13,12 @@ returns-then-at-row c =
       | then-at-row-via-then-at-row w ↦ omega (arith, w.if-at-row.true)
       | then-at-row-via-else-at-row+then-row-at-lt2 w ↦ omega (arith, w.if-at-row.false, w.if-row-at-lt2.true)
     ] in
-    rw c.at.ensures (edge-ends c.args.self.now.clocks c.args.self.now.locations c.args.self.now.row.now c.args.at short, refl)
+    rw c.ends.ensures (edge-ends c.args.self.now.clocks c.args.self.now.locations c.args.self.now.row.now c.args.at short, refl)
 
 pub returns-then-row-at : goal.returns-then-row-at
 returns-then-row-at c =
     let room : c.args.at + 2 ≤ length c.args.self.now.row.now = omega arith in
-    rw c.at-then-row-at.ensures (
+    rw c.at.ensures (
       edge-source c.args.self.now.clocks c.args.self.now.locations c.args.self.now.row.now c.args.at room c.if-row-at.true,
       omega arith,
     )
