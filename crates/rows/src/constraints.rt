@@ -159,6 +159,7 @@ impl<'a> Conjunction<'a> {
     pub fn get(&self, place: usize) -> Option<Constraint>
         ensures { ConstraintIs (nth (conjunction_value self.now) place) result }
     {
+        // by places: a pattern of `self.words.get(place.checked_mul(3)?..)?` is no plainer, since it has three ways out in place of one
         if place >= self.words.len() / 3 {
             return None;
         }

@@ -25,14 +25,14 @@ pub fn edge_at(row: &[u32], at: usize) -> Option<(Edge<'_>, usize)>
     ensures part { (e : automata.Edge) (rest : List ℕ) → drop at row.now ≡ edge_words e rest → EdgeAt row.now e rest result }
     ensures further { IfSome result (Behind row.now at) }
 {
-    if at > row.len() || row.len() - at < 2 {
+    let [source, target, ..] = row.get(at..)? else {
         return None;
-    }
+    };
     let (guard, guard_end) = conjunction_at(row, at + 2)?;
     let (resets, end) = part_at(row, guard_end, 1)?;
     let edge = Edge {
-        source: Location(row[at]),
-        target: Location(row[at + 1]),
+        source: Location(*source),
+        target: Location(*target),
         guard,
         resets,
     };

@@ -68,6 +68,8 @@ impl Reader<'_> {
         ensures { Step (parse_constraints self.now.clocks (relations_of owner)) self.now.row.now at result }
     {
         let row = self.row;
+        // by places, here and in `check_edge`: tried with `let Some([clock, relation, bound, ..]) = row.get(at..) else`, and the proof did not
+        // close: of a part that is too short no fact can be cited (goal `returns-in_default`)
         if at > row.len() || row.len() - at < 3 {
             return Err(self.ends());
         }

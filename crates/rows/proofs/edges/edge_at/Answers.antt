@@ -1,11 +1,11 @@
 -- The parts of an edge stand one behind the other.
-use Rattle.std.proofs.Common.{◌≡◌, ℕ, ◌+◌, ◌≤◌, List, ◌∷◌, ◌++◌, length, get_or, drop, arith}
+use Rattle.std.proofs.Common.{◌≡◌, ℕ, ◌+◌, ◌≤◌, List, ◌∷◌, ◌++◌, length, get_or, drop, ap, ◌∙◌, inl, inr, arith}
+use Rattle.std.proofs.lemmas.List.{take_rest}
 use Rattle.automata.specs.Automata.{Edge}
 use Rattle.automata.specs.Rows.{write_constraints}
 use Rattle.rows.specs.Parts.{edge_words}
 use Rattle.rows.proofs.Parts.{behind_two}
 use Rattle.rows.proofs.edges.edge_at.Goals as goal
-use Rattle.rows.proofs.edges.edge_at.Goals.{then-at-row-via-then-at-row, then-at-row-via-else-at-row+then-row-at-lt2}
 
 -- behind the guard stand the resets, and then the rest
 abbrev afterGuard : Edge → List ℕ → List ℕ
@@ -19,23 +19,22 @@ ends : (row : List ℕ) (at : ℕ) (e : Edge) (rest : List ℕ)
     × (at + 2 ≤ length row)
 ends row at e rest h = behind_two row at e.source e.target (length e.guard ∷ (write_constraints e.guard ++ afterGuard e rest)) h
 
-pub returns-then-at-row : goal.returns-then-at-row
-returns-then-at-row c =
-    record {
-      part =
-          λ e rest h.
-          let two = ends c.args.row.now c.args.at e rest h in
-          elim c.then-at-row.branch [
-            | then-at-row-via-then-at-row w ↦ omega (arith, w.if-at-row.true, two.3)
-            | then-at-row-via-else-at-row+then-row-at-lt2 w ↦ omega (arith, w.if-row-at-lt2.true, two.3)
-          ];
-      further = tt;
-    }
+pub returns-in_err-get-clause-part : goal.returns-in_err-get-clause-part
+returns-in_err-get-clause-part c =
+    λ e rest h.
+    let two = ends c.args.row.now c.args.at e rest h in
+    absurd (elim c.in_err-get.ensures.lookup.0 [ inl k ↦ omega (arith, two.3, k) | inr k ↦ omega (arith, k) ])
+
+pub returns-in_default-clause-part : goal.returns-in_default-clause-part
+returns-in_default-clause-part c =
+    λ e rest h.
+    let two = ends c.args.row.now c.args.at e rest h in
+    omega (arith, two.3, c.in_ok-get.ensures.lookup.0.3, c.in_default.len_below)
 
 pub returns-in_err-guard : goal.returns-in_err-guard
 returns-in_err-guard c =
     rw
-    c.from_residual.ensures
+    c.from_residual-in_err-guard.ensures
     (record {
       part =
           λ e rest h.
@@ -61,9 +60,15 @@ returns c =
       part =
           λ e rest h.
           let two = ends c.args.row.now c.args.at e rest h in
+          let words : c.in_ok-get.field-0.now ≡ edge_words e rest = c.in_ok-get.ensures.lookup.0.2 ∙ take_rest c.args.row.now c.args.at ∙ h in
           let guard = c.in_ok-guard.ensures.part e.guard (afterGuard e rest) two.2 in
           let resets = c.in_ok-resets.ensures.part (length e.resets) e.resets rest guard.1 (omega arith) in (
-            record { source = two.0; target = two.1; guard = guard.0; resets = resets.0 },
+            record {
+              source = ap (λ (ws : List ℕ). get_or ws 0 0) words;
+              target = ap (λ (ws : List ℕ). get_or ws 1 0) words;
+              guard = guard.0;
+              resets = resets.0;
+            },
             resets.1,
             resets.2,
           );
