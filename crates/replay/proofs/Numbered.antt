@@ -1,5 +1,5 @@
 -- The edge of a number, which the iterator gives once those before it are left out.
-use Rattle.std.proofs.Common.{◌≡◌, ℕ, zero, suc, ◌≤◌, List, [], ◌∷◌, length, Some, None, Option, MatchOption, refl, subst, sym, arith}
+use Rattle.std.proofs.Common.{◌≡◌, ℕ, zero, suc, ◌≤◌, List, [], ◌∷◌, length, Some, None, Option, MatchOption, refl, subst, arith}
 use Rattle.std.specs.Iterator.{Yields, SkipsThenYields}
 use Rattle.automata.specs.Automata as automata
 use Rattle.automata.specs.Automata.{nth}

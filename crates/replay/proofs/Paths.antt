@@ -1,6 +1,6 @@
 -- Lists of moves, followed one after the other.
 use Rattle.std.proofs.Common.{◌≡◌, ℕ, ◌+◌, ◌<◌, ◌≤◌, Bool, true, false, cond, List, [], ◌∷◌, ◌++◌, sym, refl, ap, ◌∙◌, subst, inl, inr, arith}
-use mathlib.Core.Option.{some}
+use mathlib.Core.Option.{some, none-ne-some}
 use Rattle.automata.specs.Automata.{nth, Edge, Automaton}
 use Rattle.automata.specs.Runs.{State, Reached, start, next}
 use Rattle.regions.specs.Moves.{among}
@@ -19,8 +19,8 @@ use Rattle.replay.specs.declared.moments.Fault.TheVariants.{
 }
 use Rattle.replay.specs.Meaning.{clock_of, Tells, ComeTo}
 use Rattle.replay.specs.Moves.{edge_state, start_state, Takes, Makes, Path, Run}
-use Rattle.replay.specs.Outcomes.{AtStart, After, Advanced, Fails, waits, Replayed, Refused}
-use Rattle.replay.proofs.Lists.{some_same, none≢some}
+use Rattle.replay.specs.Outcomes.{AtStart, After, Advanced, Fails, waits, Refused}
+use Rattle.replay.proofs.Lists.{some_same}
 use Rattle.replay.proofs.Moving.{step_of, reached_start}
 use Rattle.replay.proofs.Telling.{start_tells}
 
@@ -110,11 +110,6 @@ followed_on a d ms by m after f h =
       clocks = after_clocks a by m after h.moment f.clocks;
     }
 
-pub followed_all : (a : Automaton) (d : ℕ) (ms : List Move) (m : Moment) → 1 ≤ d → Followed a d ms m → Replayed a d ms m
-followed_all a d ms m pos f =
-    let (s, run, reached, tells) = f.run in
-    record { denominator = pos; run = f.run; come = (s, reached, tells); time = f.time }
-
 -- a move that cannot be made
 module _ (a : Automaton) (d : ℕ) (ms ns : List Move) (m : Moment) (f : Followed a d ms m) where
   no_run : (by : Move)
@@ -152,7 +147,7 @@ module _ (a : Automaton) (d : ℕ) (ms ns : List Move) (m : Moment) (f : Followe
   refused_at (Step i) NoDenominator h = h
   refused_at (Step i) NoRoom h = absurd h
   refused_at (Step i) NotAllowedAtStart h = absurd h
-  refused_at (Step i) NoSuchStep h = no_run (Step i) (λ s u tells made. none≢some made.0 (sym h ∙ made.1.number))
+  refused_at (Step i) NoSuchStep h = no_run (Step i) (λ s u tells made. none-ne-some made.0 (sym h ∙ made.1.number))
   refused_at (Step i) OtherPosition (e, number, h) =
       no_step i e number (λ s u tells made. h (made.source ∙ sym tells.location))
   refused_at (Step i) GuardFails (e, number, h) = no_step i e number (λ s u tells made. h s tells made.guard)

@@ -27,7 +27,8 @@ pub(crate) fn waited(moment: &Moment, delay: u64) -> Option<Moment>
     })
 }
 
-// The values of the clocks after resets.
+// The values of the clocks after resets. Not by one function with `cells::moves`: by a rule of the project what goes through again what the
+// search found shares no code with it but `rows`.
 pub fn with_resets(clocks: [u64; CLOCKS], resets: &[u32]) -> [u64; CLOCKS]
     ensures { (i : ℕ) → i < 8 → slice_index result i ≡ (if among i resets.now then 0 else slice_index clocks i) }
 {

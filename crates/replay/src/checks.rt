@@ -1,4 +1,5 @@
-// Whether constraints hold of clocks whose values are numbers of d-ths.
+// Whether constraints hold of clocks whose values are numbers of d-ths. A rule of the project: what goes through again what the search
+// found shares no code with it but `rows`, so `cells::guards` tests heights by functions of its own.
 ghost use Rattle.std.specs.Prelude.{◌≡◌, slice_index};
 ghost use Rattle.automata.specs.Automata.{invariant};
 ghost use Rattle.rows.specs.Parts.{relation_value};
@@ -45,8 +46,8 @@ pub fn allowed(
 ) -> bool
     ensures { Decides result (HoldsParts denominator (slice_index clocks.now) (invariant (automaton_value automaton.now) location.0)) }
 {
-    match automaton.invariant(location) {
-        Some(conjunction) => holds(&conjunction, denominator, clocks),
-        None => true,
-    }
+    automaton.invariant(location).map_or(
+        true,
+        |conjunction| holds(&conjunction, denominator, clocks),
+    )
 }

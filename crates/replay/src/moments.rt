@@ -2,7 +2,7 @@
 use rows::edges::Location;
 use rows::limits::CLOCKS;
 
-#[derive(Clone, Copy)]
+#[derive(Clone, Copy, Debug, PartialEq, Eq)]
 pub enum Move {
     // a number of d-ths
     Wait(u64),
@@ -10,16 +10,17 @@ pub enum Move {
     Step(u32),
 }
 
-// A location, the value of each clock and the time since the start, in d-ths. Only the values of the automaton's clocks count.
-#[derive(Clone, Copy)]
+// A location, the value of each clock and the time since the start, in d-ths. Only the values of the automaton's clocks count:
+// an array of the most that there may be, and no count beside it, since a moment is told of an automaton that is given with it.
+#[derive(Clone, Copy, Debug, PartialEq, Eq)]
 pub struct Moment {
     pub location: Location,
     pub clocks: [u64; CLOCKS],
     pub time: u64,
 }
 
-// Why a move, or a list of them, is refused.
-#[derive(Clone, Copy)]
+// Why a move, or a list of them, is refused. No text of it: callers tell one from another, and no user is shown it.
+#[derive(Clone, Copy, Debug, PartialEq, Eq)]
 pub enum Fault {
     // the denominator is 0
     NoDenominator,

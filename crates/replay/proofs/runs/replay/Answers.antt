@@ -1,5 +1,5 @@
 -- The first move that is refused refuses the run.
-use Rattle.std.proofs.Common.{ℕ, suc, ◌+◌, ◌<◌, ◌≤◌, List, length, get_or, take, drop, sym, subst, arith, take_all}
+use Rattle.std.proofs.Common.{ℕ, suc, ◌+◌, ◌<◌, List, length, get_or, take, drop, sym, subst}
 use lib.Seq.{split_at}
 use Rattle.std.proofs.lemmas.List.{take_more}
 use Rattle.std.proofs.lemmas.Result.{err_from_is_err_and}
@@ -12,9 +12,9 @@ use Rattle.replay.specs.declared.moments.Move.TheVariants.{Wait}
 use Rattle.replay.specs.declared.moments.Moment.{Moment}
 use Rattle.replay.specs.declared.moments.Fault.{Fault}
 use Rattle.replay.specs.Moves.{start_state}
-use Rattle.replay.specs.Outcomes.{Advanced, Fails, Replayed, Refused}
+use Rattle.replay.specs.Outcomes.{Advanced, Fails, Refused}
 use Rattle.replay.proofs.InRange.{reads_in_range}
-use Rattle.replay.proofs.Paths.{Followed, followed_start, followed_on, followed_all, refused_at}
+use Rattle.replay.proofs.Paths.{Followed, followed_start, followed_on, refused_at}
 use Rattle.replay.proofs.runs.replay.Goals as goal
 
 -- the move at a place
@@ -42,14 +42,6 @@ none_more a d ms i m fault h f fails =
     (λ (ns : List Move). Refused a d ns fault)
     (sym (split_at ms i (Wait 0) h))
     (refused_at a d (take i ms) (drop (suc i) ms) m f (move_at ms i) fault fails)
-
-all_made : (a : Automaton) (d : ℕ) (ms : List Move) (i : ℕ) (m : Moment)
-    → 1 ≤ d
-    → length ms ≤ i
-    → Followed a d (take i ms) m
-    → Replayed a d ms m
-all_made a d ms i m pos h f =
-    followed_all a d ms m pos (subst (λ (ns : List Move). Followed a d ns m) (take_all i ms h) f)
 
 pub returns-in_err-moment : goal.returns-in_err-moment
 returns-in_err-moment c =
@@ -84,11 +76,3 @@ loop-next-preserved c =
     let player = c.in_ok-player.player in
     one_more (automaton_value player.automaton) player.denominator c.args.moves.now c.loop-next.next-index c.loop-next.moment
     c.in_ok-moment-2.moment c.loop-next-test.true c.loop-next.invariant c.in_ok-moment-2.ensures
-
-pub returns : goal.returns
-returns c =
-    let player = c.in_ok-player.player in
-    rw
-    (← c.in_ok-player.ensures.0, ← c.in_ok-player.ensures.1)
-    (all_made (automaton_value player.automaton) player.denominator c.args.moves.now c.loop-next.next-index c.loop-next.moment
-    player.positive c.loop-next-test.false c.loop-next.invariant)
