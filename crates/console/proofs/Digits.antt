@@ -5,11 +5,10 @@ use Rattle.std.specs.Result.{MatchResult, OkIff, result_ok}
 use Rattle.std.specs.Str.{all_ascii_digits, IsUtf8}
 use Rattle.std.proofs.lemmas.Fmt.{IsAscii-from_digits}
 use Rattle.std.proofs.lemmas.Str.{IsUtf8-from_ascii}
-use Rattle.std.proofs.lemmas.Bool.{ltb-true, ltb-false}
+use Rattle.std.proofs.lemmas.Bool.{false≢true, ltb-true, ltb-false}
 use Rattle.std.proofs.lemmas.Bool.Decides.{nat_tests}
 use Rattle.std.proofs.lemmas.Str.Parse.{IsNumeralModel, numerals_by_fold}
 use Rattle.console.specs.Numbers.{digit_pushed, push_all, number_of}
-use Rattle.console.proofs.Truth.{not-true}
 
 -- the number that digits go on with
 abbrev pub read_on : ℕ → List ℕ → ℕ
@@ -38,7 +37,7 @@ first_true false b e = e
 
 second_true : (a b : Bool) → (a && b) ≡ true → b ≡ true
 second_true true b e = e
-second_true false b e = absurd (not-true e)
+second_true false b e = absurd (false≢true e)
 
 push_reads : (cs : List ℕ) (n : ℕ) → all_ascii_digits cs ≡ true → read_on n cs < 4294967296 → push_all (Some n) cs ≡ Some (read_on n cs)
 push_reads [] n d fits = refl
@@ -56,7 +55,7 @@ other_here c n cs true e d later = push_any (digit_pushed n c) cs (later d)
 other_here c n cs false e d later = ap (λ (o : Option ℕ). push_all o cs) (pushed-none n c e)
 
 push_other : (cs : List ℕ) (n : ℕ) → all_ascii_digits cs ≡ false → push_all (Some n) cs ≡ None
-push_other [] n d = absurd (not-true (sym d))
+push_other [] n d = absurd (false≢true (sym d))
 push_other (c ∷ cs) n d = other_here c n cs (is_ascii_digit c) refl d (λ e m. push_other cs m e)
 
 large_here : (c n : ℕ) (cs : List ℕ) (b : Bool) → ltb (n * 10 + (c - 48)) 4294967296 ≡ b → is_ascii_digit c ≡ true → (n * 10 + (c - 48) < 4294967296 → push_all (Some (n * 10 + (c - 48))) cs ≡ None) → push_all (digit_pushed n c) cs ≡ None
@@ -100,7 +99,7 @@ other_bytes bs none =
 -- a text that does not begin with a plus
 pub no_plus : (bs : List ℕ) (r : Bool) → ((rest : List ℕ) → bs ≡ (43 ∷ []) ++ rest → r ≡ true) → r ≡ false → get_or bs 0 0 ≡ 43 → ⊥
 no_plus [] r all e h = omega arith
-no_plus (b ∷ bs) r all e h = not-true (sym e ∙ all bs (ap (λ (x : ℕ). x ∷ bs) h))
+no_plus (b ∷ bs) r all e h = false≢true (sym e ∙ all bs (ap (λ (x : ℕ). x ∷ bs) h))
 
 -- what was read of bytes, as text
 pub not_text : {E : Type 0} (X : E → Type 0) (bs : List ℕ) (r : Result (Bor (List ℕ)) E) → None ≡ result_ok r → MatchResult r (λ s. (s.now ≡ bs) × IsUtf8 bs) (λ e. (IsUtf8 bs → ⊥) × X e) → IsUtf8 bs → ⊥

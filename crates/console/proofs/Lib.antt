@@ -1,7 +1,5 @@
--- Lemmas on words of digits, on texts that are written, and on words that are nearly the same.
-pub mod Truth
+-- Lemmas on words of digits and words of a text, on first places, and on words that are nearly the same.
 pub mod Digits
 pub mod Places
-pub mod Spelling
 pub mod Changes
 pub mod Words

@@ -5,7 +5,7 @@ use Rattle.std.specs.Bool.{beq, then_some}
 use Rattle.std.specs.List.{position, position_or_len}
 use Rattle.std.specs.Option.{unwrap_or}
 use Rattle.std.specs.Str.{bytes_eq}
-use Rattle.std.proofs.lemmas.Bool.{ltb-true, ltb-false}
+use Rattle.std.proofs.lemmas.Bool.{false≢true, ltb-true, ltb-false}
 use Rattle.std.proofs.lemmas.List.{get_or-drop}
 use Rattle.std.proofs.lemmas.List.Sums.{prefix_len-le-length, fails_before_first, passes_at_first}
 use Rattle.std.proofs.lemmas.Slice.Eq.{bytes_eq-Decides}
@@ -13,7 +13,6 @@ use lib.Dec.{ltb}
 use Rattle.console.specs.Names.{FirstIs, FoundIs}
 use Rattle.console.specs.Numbers.{number_of}
 use Rattle.console.specs.Rows.{blank, FirstBlank}
-use Rattle.console.proofs.Truth.{not-true}
 
 -- where the test passes, and where it passes nowhere
 cond_cases : (P : Option ℕ → Type 0) (b : Bool) (n : ℕ) → (b ≡ true → P (Some n)) → (b ≡ false → P None) → P (cond b (Some n) None)
@@ -41,7 +40,7 @@ first_is f word xs =
     let same = place-map f p xs in
     let long = length-map xs f in
     let before : (k : ℕ) → k < position_or_len (λ x. p (f x)) xs → get_or (map f xs) k [] ≡ word → ⊥ =
-    λ k lt named. not-true (sym (fails_before_first p (map f xs) k [] (omega arith)) ∙ (bytes_eq-Decides _ _).1 named) in
+    λ k lt named. false≢true (sym (fails_before_first p (map f xs) k [] (omega arith)) ∙ (bytes_eq-Decides _ _).1 named) in
     position_cases (FirstIs (map f xs) word) (λ x. p (f x)) xs
     (λ lt. (
       (omega arith, ap (λ (n : ℕ). get_or (map f xs) n []) same ∙ (bytes_eq-Decides _ _).0 (passes_at_first p (map f xs) [] (omega arith))),
@@ -50,15 +49,15 @@ first_is f word xs =
     (λ le k named. before k (let inside = named.0 in omega arith) named.1)
 
 other_blank : (b is : Bool) → beq b is ≡ false → b ≡ not is
-other_blank true true e = absurd (not-true (sym e))
+other_blank true true e = absurd (false≢true (sym e))
 other_blank true false e = refl
 other_blank false true e = refl
-other_blank false false e = absurd (not-true (sym e))
+other_blank false false e = absurd (false≢true (sym e))
 
 same_blank : (b is : Bool) → beq b is ≡ true → b ≡ is
 same_blank true true e = refl
-same_blank true false e = absurd (not-true e)
-same_blank false true e = absurd (not-true e)
+same_blank true false e = absurd (false≢true e)
+same_blank false true e = absurd (false≢true e)
 same_blank false false e = refl
 
 -- the first place from a place on where a byte is blank, or is not

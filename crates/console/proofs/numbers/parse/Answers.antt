@@ -3,12 +3,8 @@ use Rattle.std.proofs.lemmas.Slice.Eq.{starts_is}
 use Rattle.std.proofs.lemmas.Bool.Decides.{Decides-eqb}
 use Rattle.std.proofs.lemmas.Str.Parse.{parse_plain}
 use Rattle.console.specs.Numbers.{number_of}
-use Rattle.console.proofs.Digits.{numerals, parsed, plus_first, other_bytes, no_plus, not_text, same_text}
+use Rattle.console.proofs.Digits.{numerals, parsed, other_bytes, no_plus, not_text, same_text}
 use Rattle.console.proofs.numbers.parse.Goals as goal
-
-pub returns-then-starts_with : goal.returns-then-starts_with
-returns-then-starts_with c =
-    sym (plus_first c.args.word.now _ ((starts_is Decides-eqb c.args.word.now (43 ∷ []) _ c.starts_with.ensures.value).0 c.if-starts_with.true))
 
 pub returns-in_err-ok : goal.returns-in_err-ok
 returns-in_err-ok c =
