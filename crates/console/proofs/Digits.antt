@@ -89,9 +89,6 @@ parsed bs (Ok x) h = ap Some h.1 ∙ sym (some_number bs h.0.0 h.0.1 h.0.2)
 parsed bs (Err e) h = sym (no_number bs h)
 
 -- what is no number
-pub plus_first : (bs rest : List ℕ) → bs ≡ 43 ∷ rest → number_of bs ≡ None
-plus_first bs rest e = ap number_of e
-
 pub other_bytes : (bs : List ℕ) → (IsUtf8 bs → ⊥) → number_of bs ≡ None
 other_bytes bs none =
     no_number bs (λ h. none (IsUtf8-from_ascii bs (IsAscii-from_digits bs (numerals.to bs h.0))))

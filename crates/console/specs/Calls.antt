@@ -25,6 +25,13 @@ FileSet None word (Err mistake) file = ⊥
 FileSet (Some first) word (Ok done) file = ⊥
 FileSet (Some first) word (Err mistake) file = (mistake ≡ SecondFile word) × (file ≡ Some first)
 
+-- what may be given only once: a second one is handed back
+abbrev pub SetOnce : {T : Type 0} → Option T → T → Result (Unit {0}) T → Option T → Type 0
+SetOnce None value (Ok done) place = place ≡ Some value
+SetOnce None value (Err back) place = ⊥
+SetOnce (Some first) value (Ok done) place = ⊥
+SetOnce (Some first) value (Err back) place = (back ≡ value) × (place ≡ Some first)
+
 -- the next of the words after an option, and the words after it: refused where there is none, or the option has a value
 abbrev pub ValueIs : List (String Global) → Bor (List ℕ) → Bool → Result (String Global) Mistake → List (String Global) → Type 0
 ValueIs [] option given (Ok word) rest = ⊥

@@ -6,5 +6,7 @@ pub mod Calls
 pub mod Budget
 pub mod Names
 pub mod Nearness
+pub mod Unknowns
 pub mod Answers
+pub mod Clockworks
 pub mod Problems

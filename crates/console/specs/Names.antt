@@ -1,5 +1,7 @@
 -- Positions by their names, or by their numbers where they have none.
-use Rattle.std.specs.Prelude.{◌≡◌, ℕ, ◌<◌, ◌≤◌, ◌⊎◌, List, [], ◌++◌, length, Some, None, decimal, Option, slice_index_or}
+use Rattle.std.specs.Prelude.{◌≡◌, ℕ, ◌-◌, ◌<◌, ◌≤◌, ◌⊎◌, List, [], ◌++◌, length, codes, string_bytes, String, Some, None, decimal, Option, slice_index_or}
+use Rattle.std.specs.declared.alloc.Global.{Global}
+use Rattle.std.specs.List.{join_by}
 use Rattle.console.specs.Numbers.{number_of}
 
 -- the name of number n; some letters and the number where it has no name
@@ -23,3 +25,8 @@ abbrev pub FoundIs : List (List ℕ) → ℕ → List ℕ → Option ℕ → Typ
 FoundIs names count word (Some n) =
     FirstIs names word (Some n) ⊎ (FirstIs names word None × (number_of word ≡ Some n) × (n < count))
 FoundIs names count word None = FirstIs names word None × ((n : ℕ) → number_of word ≡ Some n → count ≤ n)
+
+-- what positions there are: their names with commas between them, or their numbers where there are no names
+abbrev pub KnownIs : List (String Global) → ℕ → List ℕ → Type 0
+KnownIs names count text =
+    (length names ≡ 0 → text ≡ codes "0 to " ++ decimal (count - 1)) × (0 < length names → text ≡ join_by string_bytes (codes ", ") names)

@@ -10,4 +10,5 @@ pub mod nearness;
 pub mod numbers;
 pub mod options;
 pub mod positions;
+pub mod programs;
 pub mod texts;

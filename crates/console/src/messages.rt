@@ -63,13 +63,6 @@ impl From<AllocError> for Problem {
     }
 }
 
-// Only want of memory keeps a text from being written.
-impl From<fmt::Error> for Problem {
-    fn from(_e: fmt::Error) -> Problem {
-        Problem::Memory
-    }
-}
-
 impl From<Refusal> for Problem {
     ghost use Rattle.console.specs.declared.messages.Problem.TheVariants.{Drawing};
 

@@ -50,7 +50,8 @@ fn differs_at_start(a: &[char], b: &[char]) -> bool
     is_swapped(a, b)
 }
 
-// Whether one character was changed, left out or put in, or two neighbours swapped, or nothing is different.
+// Whether one character was changed, left out or put in, or two neighbours swapped, or nothing is different. By hand: `osa_distance` of strsim
+// promises a number of a table of all starts of both words, and `OneChange` names the one place; it would be no plainer with both.
 fn differs_once(a: &[char], b: &[char]) -> bool
     ensures { Decides result (OneChange a.now b.now) }
 {

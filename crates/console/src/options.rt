@@ -1,9 +1,9 @@
 // The words of a call that cannot be understood, and why.
-ghost use Rattle.std.specs.Prelude.{◌≡◌, ◌≤◌, Some, length, string_bytes, is_some, Decides, MatchResult};
+ghost use Rattle.std.specs.Prelude.{◌≡◌, ◌≤◌, Some, length, map, string_bytes, is_some, Decides, MatchResult};
 ghost use Rattle.std.specs.Vec.Iter.{into_iter_items};
-ghost use Rattle.console.specs.Calls.{OptionIs, FileSet, ValueIs};
+ghost use Rattle.console.specs.Calls.{OptionIs, FileSet, SetOnce, ValueIs};
 ghost use Rattle.console.specs.Numbers.{number_of};
-ghost use Rattle.console.specs.Mistakes.{NumberRefused};
+ghost use Rattle.console.specs.Mistakes.{NumberRefused, OptionRefused};
 
 use crate::nearness::nearest;
 use crate::numbers;
@@ -33,7 +33,7 @@ pub enum Mistake {
 // A mistake in the call of a program.
 #[derive(Clone, Copy)]
 pub struct BadCall<'a> {
-    pub program: &'static str,
+    pub program: &'a str,
     pub mistake: &'a Mistake,
 }
 
@@ -47,6 +47,10 @@ pub enum Request<T> {
 
 // By hand: thiserror's `#[from(alloc)]` wants a variant that holds the error, and one message for each variant, where `Unknown` has two.
 impl From<AllocError> for Mistake {
+    ghost use Rattle.console.specs.declared.options.Mistake.TheVariants.{Memory};
+
+    ghost from_gives = { λ _ mistake. mistake ≡ Memory };
+
     fn from(_e: AllocError) -> Mistake {
         Mistake::Memory
     }
@@ -63,10 +67,17 @@ pub fn is_option(word: &str) -> bool
 pub fn set_file(file: &mut Option<String>, word: String) -> Result<(), Mistake>
     ensures { FileSet file.old word result file.new }
 {
-    if file.is_some() {
-        return Err(Mistake::SecondFile(word));
+    set(file, word).map_err(Mistake::SecondFile)
+}
+
+// What may be given only once: a second one is handed back.
+pub fn set<T: Drop>(place: &mut Option<T>, value: T) -> Result<(), T>
+    ensures { SetOnce place.old value result place.new }
+{
+    if place.is_some() {
+        return Err(value);
     }
-    *file = Some(word);
+    *place = Some(value);
     Ok(())
 }
 
@@ -87,7 +98,9 @@ pub fn value<T>(
 }
 
 // No option is called so: told with the option that is nearly it.
-pub fn refuse(heap: Global, options: &[&'static str], word: String) -> Mistake {
+pub fn refuse(heap: Global, options: &[&'static str], word: String) -> Mistake
+    ensures { OptionRefused (map (λ option. option.now) options.now) word result }
+{
     match nearest(heap, options, word.as_str()) {
         Ok(nearest) => Mistake::Unknown {
             nearest: nearest.copied(),

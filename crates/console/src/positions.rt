@@ -1,7 +1,8 @@
 // Positions by their names, or by their numbers where they have none.
 ghost use Rattle.std.specs.Prelude.{◌≡◌, map, position, IfOk, string_bytes};
 ghost use Rattle.std.specs.Str.{bytes_eq};
-ghost use Rattle.console.specs.Names.{name_text, FoundIs};
+ghost use Rattle.console.specs.Names.{name_text, FoundIs, KnownIs};
+ghost use Rattle.console.specs.Unknowns.{UnknownIs};
 
 use crate::messages::Problem;
 use crate::names::Name;
@@ -28,6 +29,7 @@ fn find_name(names: &[String], word: &str) -> Option<usize>
 pub fn find(names: &[String], count: usize, word: &str) -> Option<usize>
     ensures { FoundIs (map string_bytes names.now) count word.now result }
 {
+    // No `or_else`: the goal `returns` stayed open, since what the closure promises of the number is out of reach of its proof.
     if let Some(position) = find_name(names, word) {
         return Some(position);
     }
@@ -48,25 +50,20 @@ pub fn name_of(heap: Global, names: &[String], position: usize) -> Result<String
 }
 
 // The names with commas between them, or the numbers where there are no names.
-fn list(heap: Global, names: &[String], count: usize) -> Result<String, AllocError> {
-    let [first, others @ ..] = names else {
+fn list(heap: Global, names: &[String], count: usize) -> Result<String, AllocError>
+    ensures { IfOk result (λ text. KnownIs names.now count (string_bytes text)) }
+{
+    if names.is_empty() {
         let last = count.saturating_sub(1);
         return format!(in heap; "0 to {last}");
-    };
-    let mut text = first.clone()?;
-    for name in others {
-        write!(text, ", {name}")?;
     }
-    Ok(text)
+    names.join(heap, ", ")
 }
 
 // Why a word names no position.
-pub fn refuse(
-    heap: Global,
-    names: &[String],
-    count: usize,
-    word: &str,
-) -> Result<Unknown, Problem> {
+pub fn refuse(heap: Global, names: &[String], count: usize, word: &str) -> Result<Unknown, Problem>
+    ensures { IfOk result (UnknownIs names.now count word.now) }
+{
     Ok(Unknown {
         word: String::from_str(heap, word)?,
         nearest: nearest(heap, names, word)?.cloned()?,

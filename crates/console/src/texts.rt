@@ -1,12 +1,15 @@
 // A clockwork's text, as a drawing or as a row of numbers, and why it is refused.
 ghost use Rattle.automata.specs.Automata as automata;
 ghost use Rattle.automata.specs.Rows.{Reads};
-ghost use Rattle.std.specs.Prelude.{◌≡◌, IfOk, string_bytes, MatchResult};
+ghost use Rattle.console.specs.Calls.{SourceIs};
+ghost use Rattle.console.specs.Clockworks.{IsClockwork};
+ghost use Rattle.std.specs.Prelude.{◌≡◌, IfOk, option_map, string_bytes, MatchResult};
 ghost use Rattle.drawing.specs.Drawn.{DrawnAs};
 
+use crate::input::Source;
 use crate::messages::{Expected, Found, Problem};
-use crate::numbers;
 use crate::numbers::Mistake;
+use crate::{input, numbers};
 use clockworks::write::Unfit;
 use drawing::Drawing;
 use drawing::errors::{Place, Wrong};
@@ -21,6 +24,13 @@ use std::alloc::{AllocError, Global};
 pub enum Form {
     Drawing,
     Row,
+}
+
+// A text that a call names, and how it is written: standard input where no file is named.
+#[derive(Drop)]
+pub struct Text {
+    pub form: Form,
+    pub file: Option<String>,
 }
 
 // A word that is shown has at most so many characters.
@@ -55,6 +65,15 @@ fn refuse(
     }))
 }
 
+// Why the numbers of a text cannot be read.
+fn explain(heap: Global, bytes: &[u8], mistake: Mistake) -> Result<Problem, AllocError> {
+    match mistake {
+        Mistake::Memory => Ok(Problem::Memory),
+        Mistake::NoNumber(word) => refuse(heap, bytes, word, Expected::Number),
+        Mistake::TooMany => refuse(heap, bytes, MOST_WORDS, Expected::FewNumbers),
+    }
+}
+
 // What a rule asks for.
 fn expect(rule: Rule, row: &[u32]) -> Expected {
     match rule {
@@ -63,7 +82,7 @@ fn expect(rule: Rule, row: &[u32]) -> Expected {
         Rule::Clocks => Expected::Clocks,
         Rule::Locations => Expected::Positions,
         Rule::Clock => Expected::Clock {
-            clocks: row.get(0).copied().unwrap_or(0),
+            clocks: row.first().copied().unwrap_or(0),
         },
         Rule::Relation => Expected::Relation,
         Rule::LowerBound => Expected::UpperRelation,
@@ -76,18 +95,11 @@ fn expect(rule: Rule, row: &[u32]) -> Expected {
 
 // A row that stands in a text, if it is a clockwork's. It has no names.
 fn read_row(heap: Global, bytes: &[u8]) -> Result<Drawing, Problem>
-    ensures { IfOk result (λ d. (a : automata.Automaton) × Reads d.row.items a) }
+    ensures { IfOk result IsClockwork }
 {
-    let row = match numbers::read(heap, bytes) {
-        Ok(row) => row,
-        Err(Mistake::Memory) => return Err(Problem::Memory),
-        Err(Mistake::NoNumber(word)) => {
-            return Err(refuse(heap, bytes, word, Expected::Number)?);
-        }
-        Err(Mistake::TooMany) => {
-            return Err(refuse(heap, bytes, MOST_WORDS, Expected::FewNumbers)?);
-        }
-    };
+    let row = numbers::read(heap, bytes).or_else(|mistake| -> Result<Vec<u32>, Problem> {
+        Err(explain(heap, bytes, mistake)?)
+    })?;
     if let Err(refusal) = reader::read(row.as_slice()) {
         let expected = expect(refusal.rule, row.as_slice());
         return Err(refuse(heap, bytes, refusal.word, expected)?);
@@ -108,11 +120,27 @@ pub fn view(row: &[u32]) -> Result<Automaton<'_>, Problem>
 
 // The row of the clockwork that a text is of, with the names of its clocks and positions.
 pub fn read(heap: Global, form: Form, bytes: &[u8]) -> Result<Drawing, Problem>
-    ensures { IfOk result (λ d. (a : automata.Automaton) × Reads d.row.items a) }
+    ensures { IfOk result IsClockwork }
 {
     match form {
         Form::Row => read_row(heap, bytes),
         Form::Drawing => Ok(drawing::read(heap, bytes)?),
+    }
+}
+
+impl Text {
+    pub fn source(&self) -> Source<'_>
+        ensures { SourceIs (option_map string_bytes self.now.file) result }
+    {
+        Source::of(self.file.as_ref().map(|name| name.as_str()))
+    }
+
+    // The clockwork of the text, which is let go of.
+    pub fn read(&self, rt: &HostRuntime) -> Result<Drawing, Problem>
+        ensures { IfOk result IsClockwork }
+    {
+        let bytes = input::read(rt, self.source())?;
+        read(rt.alloc(), self.form, bytes.as_slice())
     }
 }
 
