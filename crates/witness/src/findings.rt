@@ -22,6 +22,15 @@ pub struct Finding {
     pub shown: Result<Option<Witness>, NoRoom>,
 }
 
+// Whether a run is left out for want of room alone.
+fn no_room(failure: Failure) -> Result<NoRoom, Trouble> {
+    match failure {
+        Failure::NoRoom => Ok(NoRoom),
+        Failure::Memory => Err(Trouble::Problem(Problem::Memory)),
+        Failure::Astray => Err(Trouble::Astray),
+    }
+}
+
 // Explores, looks up and shows; the words of the search are given back.
 pub fn find(
     heap: Global,
@@ -38,14 +47,10 @@ pub fn find(
         kinds,
     };
     let shown = match explored {
-        Ok(table) => {
-            match witness_of(heap, automaton, &table, kinds, location, part) {
-                Ok(witness) => Ok(witness),
-                Err(Failure::NoRoom) => Err(NoRoom),
-                Err(Failure::Memory) => return Err(Trouble::Problem(Problem::Memory)),
-                Err(Failure::Astray) => return Err(Trouble::Astray),
-            }
-        }
+        Ok(table) => match witness_of(heap, automaton, &table, kinds, location, part) {
+            Ok(witness) => Ok(witness),
+            Err(failure) => Err(no_room(failure)?),
+        },
         Err(_) => Ok(None),
     };
     Ok(Finding { answer, shown })

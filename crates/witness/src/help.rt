@@ -1,9 +1,13 @@
 // What the program says of itself.
-pub const PROGRAM: &str = "witness";
+use console::programs::About;
 
-pub const VERSION: &str = "witness 0.1.0\n";
+pub const ABOUT: About = About {
+    program: "witness",
+    version: "witness 0.1.0\n",
+    help: HELP,
+};
 
-pub const HELP: &str = "\
+const HELP: &str = "\
 Tells when a position of a clockwork, which is a timed automaton, can be reached at the earliest, and shows a run that reaches it then.
 
 Usage: witness [OPTION].. FILE --position NAME

@@ -1,18 +1,14 @@
 // Reads a clockwork, as a drawing or as a row of numbers, and shows a run that reaches a position as early as can be.
 #![tactic(auto)]
 
-ghost use Rattle.automata.specs.Automata.{Automaton};
-ghost use Rattle.automata.specs.Rows.{Reads};
-ghost use Rattle.std.specs.Prelude.{IfOk};
-
 use crate::options::Options;
 use crate::troubles::{Complaint, Trouble};
 use accounts::names::Names;
 use console::budget::kinds_that_fit;
 use console::messages::Problem;
 use console::names::Name;
-use console::options::{BadCall, Request};
-use console::{input, positions, texts};
+use console::programs::{NoWords, begin, tell};
+use console::{positions, texts};
 use drawing::Drawing;
 use rows::edges::Location;
 use std::alloc::{AllocError, Global};
@@ -38,6 +34,7 @@ fn find_position(
         return Err(Trouble::NoPosition(unknown.known));
     };
     let word = word.as_str();
+    // A match: `refuse` can fail itself, and `ok_or_else` takes what cannot.
     match positions::find(names, count, word) {
         Some(position) => Ok(Location(u32::try_from(position).unwrap_or(u32::MAX))),
         None => Err(Trouble::from(Problem::Position(positions::refuse(heap, names, count, word)?))),
@@ -82,47 +79,31 @@ fn write_output(heap: Global, options: &Options, drawing: &Drawing) -> Result<St
 }
 
 // The text is let go before the search begins.
-fn read(rt: &HostRuntime, options: &Options) -> Result<Drawing, Problem>
-    ensures { IfOk result (λ d. (a : Automaton) × Reads d.row.items a) }
-{
-    let bytes = input::read(rt, options.source())?;
-    texts::read(rt.alloc(), options.form, bytes.as_slice())
-}
-
 fn carry_out(rt: &HostRuntime, options: &Options) -> Result<(), Trouble> {
-    let drawing = read(rt, options)?;
+    let drawing = options.text.read(rt)?;
     let text = write_output(rt.alloc(), options, &drawing)?;
     rt.print(text.as_str()).map_err(Problem::Unwritable)?;
     Ok(())
 }
 
-// Where something is wrong, the reason is told. Earliest has a twin, with other words, options and work: a shared one would take all three
-// from its caller, the last two as closures, and be no plainer.
+// Where something is wrong, the reason is told.
 fn main(rt: HostRuntime) -> io::Result<ExitCode> {
     let words = match env::args(&rt) {
         Ok(words) => words,
         Err(error) => {
-            eprintln!(rt; "witness: the arguments cannot be read: {error}")?;
-            return Ok(ExitCode::FAILURE);
+            let program = help::ABOUT.program;
+            let error = &error;
+            return tell(&rt, NoWords { program, error });
         }
     };
-    match options::parse(rt.alloc(), words) {
-        Ok(Request::Help) => rt.print(help::HELP)?,
-        Ok(Request::Version) => rt.print(help::VERSION)?,
-        Ok(Request::Show(options)) => {
-            if let Err(trouble) = carry_out(&rt, &options) {
-                let source = options.source();
-                let trouble = &trouble;
-                rt.eprintln(Complaint { source, trouble })?;
-                return Ok(ExitCode::FAILURE);
-            }
-        }
-        Err(mistake) => {
-            let program = help::PROGRAM;
-            let mistake = &mistake;
-            rt.eprintln(BadCall { program, mistake })?;
-            return Ok(ExitCode::FAILURE);
-        }
+    let options = match begin(&rt, help::ABOUT, options::parse(rt.alloc(), words))? {
+        Ok(options) => options,
+        Err(status) => return Ok(status),
+    };
+    if let Err(trouble) = carry_out(&rt, &options) {
+        let source = options.text.source();
+        let trouble = &trouble;
+        return tell(&rt, Complaint { source, trouble });
     }
     Ok(ExitCode::SUCCESS)
 }

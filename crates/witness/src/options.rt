@@ -1,7 +1,6 @@
 // The options of a call: what to read, and what to show of it.
-use console::input::Source;
 use console::options::{Mistake, Request, is_option, number, refuse, set_file, value};
-use console::texts::Form;
+use console::texts::{Form, Text};
 use std::alloc::Global;
 use std::env::Args;
 
@@ -10,12 +9,11 @@ const PART: u32 = 100;
 
 #[derive(Drop)]
 pub struct Options {
-    pub form: Form,
+    pub text: Text,
     pub position: Option<String>,
     pub part: u32,
     // As many as fit where none.
     pub kinds: Option<u32>,
-    file: Option<String>,
 }
 
 const OPTIONS: [&str; 6] = [
@@ -27,13 +25,8 @@ const OPTIONS: [&str; 6] = [
     "--version",
 ];
 
-impl Options {
-    pub fn source(&self) -> Source<'_> {
-        Source::of(self.file.as_ref().map(|name| name.as_str()))
-    }
-}
-
-// The words of the call, of which the first is the program's own name.
+// The words of the call, of which the first is the program's own name. clap is not used: it words its messages and its help in its own way,
+// and what the program prints is to stay.
 pub fn parse(heap: Global, mut words: Args) -> Result<Request<Options>, Mistake> {
     // Both are only noted, and no value is beside them: a mistake in a later word is told first, and the version before the help.
     let mut help = false;
@@ -69,10 +62,9 @@ pub fn parse(heap: Global, mut words: Args) -> Result<Request<Options>, Mistake>
         return Ok(Request::Help);
     }
     Ok(Request::Show(Options {
-        form,
+        text: Text { form, file },
         position,
         part: within.unwrap_or(PART),
         kinds,
-        file,
     }))
 }

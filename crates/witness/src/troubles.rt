@@ -45,13 +45,6 @@ impl From<Untold> for Trouble {
     }
 }
 
-// Only want of memory keeps a text from being written.
-impl From<fmt::Error> for Trouble {
-    fn from(_e: fmt::Error) -> Trouble {
-        Trouble::Problem(Problem::Memory)
-    }
-}
-
 impl<'a> fmt::Display for Complaint<'a> {
     fn fmt<W: fmt::Write>(&self, f: &mut fmt::Formatter<W>) -> fmt::Result {
         let source = self.source;
