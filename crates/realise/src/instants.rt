@@ -38,7 +38,7 @@ fn instant_of(cell_height: u32, top: u32, reset: Instant) -> Option<Instant> {
     if cell_height > top.saturating_mul(2) || cell_height % 2 != 0 {
         return None;
     }
-    let whole = reset.whole.checked_add(u64::from(cell_height / 2))?;
+    let whole = reset.whole.checked_add((cell_height / 2) as u64)?;
     Some(Instant {
         whole,
         fraction: reset.fraction,
@@ -51,7 +51,7 @@ struct Planner {
     frame: Frame,
     plan: Plan,
     now: Instant,
-    // when each clock was last set back
+    // when each clock was last set back; an array of the most that there may be, as a region has its cells, with the count in `frame`
     resets: [Instant; CLOCKS],
 }
 

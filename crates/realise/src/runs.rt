@@ -12,7 +12,8 @@ use replay::moments::{Fault, Moment, Move};
 use replay::runs::replay;
 use rows::edges::Location;
 use rows::views::Automaton;
-use std::alloc::{AllocError, AllocFailed, Global};
+use std::alloc::{AllocError, Global};
+use thiserror::Error;
 
 // A run over a denominator d, and the moment at which it ends.
 #[derive(Drop)]
@@ -23,26 +24,14 @@ pub struct Run {
 }
 
 // Why there is no run.
-#[derive(Clone, Copy)]
+#[derive(Clone, Copy, Debug, PartialEq, Eq, Error)]
 pub enum Failure {
-    Memory,
-    // a number is too large for its type
+    #[error("not enough memory")]
+    Memory(#[from(alloc)] AllocError),
+    #[error("a number is too large for its type")]
     NoRoom,
-    // the way is none of the automaton, or does not lead to that location at that time
+    #[error("the way is none of the automaton, or does not lead to that location at that time")]
     Astray,
-}
-
-// By hand: thiserror's `#[from(alloc)]` wants a variant that holds the error, and nothing is told of it but that there was no memory.
-impl From<AllocError> for Failure {
-    fn from(_e: AllocError) -> Failure {
-        Failure::Memory
-    }
-}
-
-impl<T: Drop> From<AllocFailed<T>> for Failure {
-    fn from(_e: AllocFailed<T>) -> Failure {
-        Failure::Memory
-    }
 }
 
 // A way of the automaton is one all of whose moves are allowed.
@@ -116,7 +105,7 @@ fn moves_along(
 ) -> Result<(u64, Vec<Move>), Failure> {
     let Plan { events, order } = plan_along(heap, frame_of(*automaton), way)?;
     let denominator = (order.len() as u64)
-        .checked_mul(u64::from(part_of(arrival)))
+        .checked_mul(part_of(arrival) as u64)
         .ok_or(Failure::NoRoom)?;
     let places = order.places(heap)?;
     let moves = moves_of(heap, events.as_slice(), places.as_slice(), denominator)?;

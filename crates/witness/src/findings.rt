@@ -26,7 +26,7 @@ pub struct Finding {
 fn no_room(failure: Failure) -> Result<NoRoom, Trouble> {
     match failure {
         Failure::NoRoom => Ok(NoRoom),
-        Failure::Memory => Err(Trouble::Problem(Problem::Memory)),
+        Failure::Memory(_) => Err(Trouble::Problem(Problem::Memory)),
         Failure::Astray => Err(Trouble::Astray),
     }
 }
