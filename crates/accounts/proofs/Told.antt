@@ -1,17 +1,15 @@
 -- A text that is written move by move, and in a line clock by clock.
-use Rattle.std.proofs.Common.{◌≡◌, ℕ, suc, ◌+◌, ◌<◌, ◌≤◌, min, List, [], ◌∷◌, ◌++◌, length, get_or, take, codes, sym, ap, ◌∙◌, subst, append_assoc, append-nil, add-one}
-use Rattle.std.proofs.lemmas.List.{take_more, take_all}
+use Rattle.std.proofs.Common.{◌≡◌, ℕ, suc, ◌+◌, min, List, [], ◌∷◌, ◌++◌, length, get_or, Ok, Result, codes, sym, ap, ◌∙◌, subst, append_assoc, append-nil, add-one}
 use Rattle.automata.specs.Automata.{Automaton}
 use Rattle.clockworks.specs.Meaning.{Adds}
 use Rattle.clockworks.proofs.Writing.{adds_more, adds_same}
 use Rattle.replay.specs.declared.moments.Move.{Move}
-use Rattle.replay.specs.declared.moments.Move.TheVariants.{Wait}
 use Rattle.replay.specs.declared.moments.Moment.{Moment}
 use Rattle.replay.specs.Meaning.{clock_of}
-use Rattle.replay.specs.Outcomes.{AtStart, Advanced}
 use Rattle.accounts.specs.declared.widths.Widths.{Widths}
 use Rattle.columns.specs.Columns.{padded}
 use Rattle.accounts.specs.Lines.{PartsText, name_of, MoveText, cell_of_clock, ClocksText, next_clock, LineText, Lines, no_line, next_line}
+use Rattle.accounts.specs.Walks.{Walked, no_move, next_move}
 
 pub adds_none : {xs : List ℕ} → Adds xs [] xs
 adds_none {xs = xs} = record { longer = sym (append-nil xs) }
@@ -64,26 +62,16 @@ module _ {X : Type 0} (text : X → List ℕ) (clocks positions : List X) (w : W
         (adds_more e end),
   )
 
-  module _ (a : Automaton) (moves : List Move) where
-    pub lines_none : {words : List ℕ} (m : Moment) → words ≡ [] → AtStart m → Lines a text clocks positions w d [] m words
-    lines_none m empty at =
-        subst (λ (l : List ℕ). Lines a text clocks positions w d [] m l) (sym empty) (no_line at)
-
-    pub lines_more : {words next : List ℕ} (i : ℕ) (m after : Moment)
-        → i < length moves
-        → Lines a text clocks positions w d (take i moves) m words
-        → Advanced a d m (get_or moves i (Wait 0)) after
-        → ((line : List ℕ) × LineText text clocks positions w d (get_or moves i (Wait 0)) after line × Adds words line next)
-        → Lines a text clocks positions w d (take (i + 1) moves) after next
-    lines_more {words = words} {next = next} i m after h sofar advanced (line, told, adds) =
-        let moved = take_more moves i (Wait 0) h in
-        let all = next_line (get_or moves i (Wait 0)) sofar advanced told in
-        let shown = subst (λ (l : List ℕ). Lines a text clocks positions w d (take i moves ++ get_or moves i (Wait 0) ∷ []) after l) (sym adds.longer) all in
-        subst (λ (ms : List Move). Lines a text clocks positions w d ms after next) (sym moved) shown
-
-    pub lines_all : {words : List ℕ} (i : ℕ) (m : Moment)
-        → length moves ≤ i
-        → Lines a text clocks positions w d (take i moves) m words
-        → Lines a text clocks positions w d moves m words
-    lines_all {words = words} i m h sofar =
-        subst (λ (ms : List Move). Lines a text clocks positions w d ms m words) (take_all i moves h) sofar
+  -- what adds a line after each move tells the run
+  pub lines_walked : {S E : Type 0} (a : Automaton) (shown : S → List ℕ) (then : S → Move → Moment → Result S E → Type 0) (first : S)
+      → ((done : S) (by : Move) (after : Moment) (next : S) → then done by after (Ok next) → (line : List ℕ) × LineText text clocks positions w d by after line × Adds (shown done) line (shown next))
+      → shown first ≡ []
+      → (moves : List Move) (m : Moment) (last : S)
+      → Walked a d then first moves m last
+      → Lines a text clocks positions w d moves m (shown last)
+  lines_walked a shown then first adds empty moves m last (no_move at) =
+      subst (λ (l : List ℕ). Lines a text clocks positions w d [] m l) (sym empty) (no_line at)
+  lines_walked a shown then first adds empty moves m last (next_move {moves = before} {m = at} {done = done} by so_far advanced called) =
+      let one = adds done by m last called in
+      subst (λ (l : List ℕ). Lines a text clocks positions w d (before ++ by ∷ []) m l) (sym one.2.longer)
+      (next_line by (lines_walked a shown then first adds empty before at done so_far) advanced one.1)

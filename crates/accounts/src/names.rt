@@ -12,6 +12,7 @@ pub struct Names<'a> {
 pub fn name_of(names: &[String], number: usize) -> &str
     ensures { result.now ≡ name_of string_bytes names.now number }
 {
+    // A match: with `map_or` and a closure `returns` stayed open, where each arm here ends by one lemma on the list.
     match names.get(number) {
         Some(name) => name.as_str(),
         None => "",

@@ -1,9 +1,10 @@
 // A run as text: a line for each wait and each step.
-ghost use Rattle.std.specs.Prelude.{◌≡◌, ℕ, min, List, [], length, IfOk, string_bytes, OnOk};
+ghost use Rattle.std.specs.Prelude.{◌≡◌, ℕ, min, List, length, IfOk, string_bytes, OnOk};
 ghost use Rattle.rows.specs.Views.{automaton_value};
 ghost use Rattle.clockworks.specs.Meaning.{Adds};
 ghost use Rattle.replay.specs.declared.moments.Moment as moments;
 ghost use Rattle.accounts.specs.Lines.{name_of, ClocksText, LineText, Lines, Account};
+ghost use Rattle.accounts.specs.Walks.{Walked};
 
 use crate::names::{Names, name_of};
 use crate::pieces::{clock_cell, move_cell, time_cell};
@@ -21,7 +22,8 @@ pub enum Untold {
     NoRun(Fault),
 }
 
-// By hand: thiserror's `#[from(alloc)]` wants a variant that holds the error, and nothing is told of it but that there was no memory.
+// By hand: thiserror's derive asks for a text of each variant, and for `Debug`, which a `Fault` lacks; a caller takes the two
+// for what it tells itself, and no one reads a text here.
 impl From<AllocError> for Untold {
     fn from(_e: AllocError) -> Untold {
         Untold::Memory
@@ -77,14 +79,30 @@ impl<'a> Teller<'a> {
         })
     }
 
-    // The widths of the columns of a run.
-    fn measure(&self, moves: &[Move]) -> Result<Widths, Untold> {
-        let mut widths = Widths::NONE;
+    // Goes through a run. What is done after a move goes on from what was done after the one before.
+    fn walk<S: Drop, F: Fn(S, Move, Moment) -> Result<S, AllocError>>(
+        &self,
+        moves: &[Move],
+        first: S,
+        then: F,
+    ) -> Result<S, Untold>
+        requires { F.IsAlwaysCallable then }
+        ensures { IfOk result (λ last. (m : moments.Moment) × Walked (automaton_value self.now.automaton) self.now.denominator (F.post then) first moves.now m last) }
+    {
         let mut moment = begin(&self.automaton)?;
+        let mut so_far = first;
         for next in moves {
             moment = advance(&self.automaton, self.denominator, &moment, *next)?;
-            widths = self.widths_with(widths, *next, &moment)?;
+            so_far = then(so_far, *next, moment)?;
         }
+        Ok(so_far)
+    }
+
+    // The widths of the columns of a run.
+    fn measure(&self, moves: &[Move]) -> Result<Widths, Untold> {
+        let widths = self.walk(moves, Widths::default(), |widths, by, after| {
+            self.widths_with(widths, by, &after)
+        })?;
         Ok(widths.without_last(self.names.clocks.len()))
     }
 
@@ -109,15 +127,15 @@ impl<'a> Teller<'a> {
         Ok(())
     }
 
-    // A move, and the time, the position and the clocks after it.
-    fn write_line(
+    // The text with one more line: a move, and the time, the position and the clocks after it.
+    fn with_line(
         &self,
-        text: &mut String,
+        mut text: String,
         widths: &Widths,
         by: Move,
         after: &Moment,
-    ) -> Result<(), AllocError>
-        ensures { OnOk result ((line : List ℕ) × LineText string_bytes self.now.names.clocks.now self.now.names.positions.now widths.now self.now.denominator by after.now line × Adds (string_bytes text.old) line (string_bytes text.new)) }
+    ) -> Result<String, AllocError>
+        ensures { IfOk result (λ longer. (line : List ℕ) × LineText string_bytes self.now.names.clocks.now self.now.names.positions.now widths.now self.now.denominator by after.now line × Adds (string_bytes text) line (string_bytes longer)) }
     {
         let moved = move_cell(self.heap, self.denominator, by)?;
         let time = time_cell(self.heap, self.denominator, after.time)?;
@@ -134,22 +152,18 @@ impl<'a> Teller<'a> {
             width: widths.positions,
         };
         write!(text, "{moved}  {time}  {position}")?;
-        self.write_clocks(text, widths, after)?;
+        self.write_clocks(&mut text, widths, after)?;
         write!(text, "\n")?;
-        Ok(())
+        Ok(text)
     }
 
     // The lines of a run in columns.
-    fn write_lines(&self, text: &mut String, widths: &Widths, moves: &[Move]) -> Result<(), Untold>
-        requires { string_bytes text.old ≡ [] }
-        ensures { OnOk result ((m : moments.Moment) × Lines (automaton_value self.now.automaton) string_bytes self.now.names.clocks.now self.now.names.positions.now widths.now self.now.denominator moves.now m (string_bytes text.new)) }
+    fn write_lines(&self, widths: &Widths, moves: &[Move]) -> Result<String, Untold>
+        ensures { IfOk result (λ text. (m : moments.Moment) × Lines (automaton_value self.now.automaton) string_bytes self.now.names.clocks.now self.now.names.positions.now widths.now self.now.denominator moves.now m (string_bytes text)) }
     {
-        let mut moment = begin(&self.automaton)?;
-        for next in moves {
-            moment = advance(&self.automaton, self.denominator, &moment, *next)?;
-            self.write_line(text, widths, *next, &moment)?;
-        }
-        Ok(())
+        self.walk(moves, String::new(self.heap), |text, by, after| {
+            self.with_line(text, widths, by, &after)
+        })
     }
 }
 
@@ -170,7 +184,5 @@ pub fn write_run(
         denominator,
     };
     let widths = teller.measure(moves)?;
-    let mut text = String::new(heap);
-    teller.write_lines(&mut text, &widths, moves)?;
-    Ok(text)
+    teller.write_lines(&widths, moves)
 }

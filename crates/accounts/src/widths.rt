@@ -1,8 +1,10 @@
 // How wide the columns of a run are.
+ghost use Rattle.std.specs.Prelude.{◌≡◌};
+
 use rows::limits::CLOCKS;
 
 // How wide each column of a run is, in characters.
-#[derive(Clone, Copy)]
+#[derive(Clone, Copy, Default)]
 pub struct Widths {
     pub moves: usize,
     pub times: usize,
@@ -11,20 +13,16 @@ pub struct Widths {
 }
 
 impl Widths {
-    pub const NONE: Widths = Widths {
-        moves: 0,
-        times: 0,
-        positions: 0,
-        clocks: [0; CLOCKS],
-    };
-
     // The widths with no blanks after the last of so many clocks.
-    pub fn without_last(self, clocks: usize) -> Widths {
+    pub fn without_last(self, clocks: usize) -> Widths
+        ensures others { (result.moves ≡ self.moves) × (result.times ≡ self.times) × (result.positions ≡ self.positions) }
+        ensures without { clocks ≡ 0 → result.clocks ≡ self.clocks }
+    {
         let mut widths = self;
-        if let Some(last) = clocks.checked_sub(1) {
-            if let Some(width) = widths.clocks.get_mut(last) {
-                *width = 0;
-            }
+        if let Some(last) = clocks.checked_sub(1)
+            && let Some(width) = widths.clocks.get_mut(last)
+        {
+            *width = 0;
         }
         widths
     }
