@@ -22,8 +22,8 @@ pub enum Untold {
     NoRun(Fault),
 }
 
-// By hand: thiserror's derive asks for a text of each variant, and for `Debug`, which a `Fault` lacks; a caller takes the two
-// for what it tells itself, and no one reads a text here.
+// By hand: thiserror's derive asks for a text of each variant, and no one reads one here: a caller takes the two for what it tells
+// itself.
 impl From<AllocError> for Untold {
     fn from(_e: AllocError) -> Untold {
         Untold::Memory

@@ -23,6 +23,7 @@ pub const WORK_WORDS: usize = (ALL_BYTES - OTHER_BYTES) / BYTES_OF_A_WORD;
 pub fn kinds_that_fit(row: usize) -> u32
     ensures { KindsFit row result }
 {
+    // by a sum that is cut off, here and below, and not `words_needed`: what has no place is refused like what is too much
     let other = row.saturating_mul(WORDS_FOR_A_WORD).saturating_add(WORDS);
     (WORK_WORDS.saturating_sub(other) / WORDS_FOR_A_KIND) as u32
 }

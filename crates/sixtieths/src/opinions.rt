@@ -18,7 +18,7 @@ use std::fmt;
 // As many kinds of states are allowed, which is more than any automaton has that is asked about here.
 pub const KINDS: u32 = 16_384;
 
-// Words for rows of any length.
+// Words for rows of any length. Not by `words_needed`, since a constant calls no function.
 pub const WORK: usize = WORDS + WORDS_FOR_A_WORD * MOST_WORDS + WORDS_FOR_A_KIND * KINDS as usize;
 
 // The first time on the grid, in sixtieths, and what came of the run to it.
