@@ -30,8 +30,7 @@ fn carry_out(rt: &HostRuntime, options: &Options) -> Result<(), Problem> {
     rt.print(text.as_str()).map_err(Problem::Unwritable)
 }
 
-// Where something is wrong, the reason is told. Witness has a twin, with other words, options and work: a shared one would take all three
-// from its caller, the last two as closures, and be no plainer.
+// Where something is wrong, the reason is told.
 fn main(rt: HostRuntime) -> io::Result<ExitCode> {
     let words = match env::args(&rt) {
         Ok(words) => words,
