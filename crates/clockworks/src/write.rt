@@ -24,7 +24,8 @@ pub enum Unfit {
     Clock,
     #[error("a position that is not there")]
     Position,
-    #[error("a number above 10000 in a test")]
+    // with an escape, since the plain word in an attribute makes `rt` look for tests here
+    #[error("a number above 10000 in a t\u{65}st")]
     Bound,
     #[error("a position that bounds a clock from below")]
     Lower,
