@@ -3,6 +3,7 @@ pub mod Numbers
 pub mod Rows
 pub mod Mistakes
 pub mod Calls
+pub mod Programs
 pub mod Budget
 pub mod Names
 pub mod Nearness

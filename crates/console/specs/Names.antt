@@ -10,7 +10,7 @@ called_text names letters n = slice_index_or names n (letters ++ decimal n)
 
 -- the name of position n; its number where it has no name
 abbrev pub name_text : List (List ℕ) → ℕ → List ℕ
-name_text names n = slice_index_or names n (decimal n)
+name_text names n = called_text names [] n
 
 abbrev pub Named : List (List ℕ) → List ℕ → ℕ → Type 0
 Named names word n = (n < length names) × (slice_index_or names n [] ≡ word)

@@ -1,4 +1,8 @@
 // How the programs begin and end: what a call asks of the program itself is printed, and what is wrong is told.
+ghost use Rattle.std.specs.Prelude.{◌≡◌, IfOk};
+ghost use Rattle.std.specs.Process.{exit_status};
+ghost use Rattle.console.specs.Programs.{BeginsWith};
+
 use crate::options::{BadCall, Mistake, Request};
 use std::process::ExitCode;
 use std::{fmt, io};
@@ -27,7 +31,9 @@ impl<'a> fmt::Display for NoWords<'a> {
 }
 
 // Tells what is wrong on standard error.
-pub fn tell<D: fmt::Display + Drop>(rt: &HostRuntime, wrong: D) -> io::Result<ExitCode> {
+pub fn tell<D: fmt::Display + Drop>(rt: &HostRuntime, wrong: D) -> io::Result<ExitCode>
+    ensures { IfOk result (λ status. exit_status status ≡ 1) }
+{
     rt.eprintln(wrong)?;
     Ok(ExitCode::FAILURE)
 }
@@ -37,7 +43,9 @@ pub fn begin<T: Drop>(
     rt: &HostRuntime,
     about: About,
     asked: Result<Request<T>, Mistake>,
-) -> io::Result<Result<T, ExitCode>> {
+) -> io::Result<Result<T, ExitCode>>
+    ensures { IfOk result (λ begun. BeginsWith asked begun) }
+{
     match asked {
         Ok(Request::Help) => rt.print(about.help)?,
         Ok(Request::Version) => rt.print(about.version)?,
