@@ -1,9 +1,13 @@
 // What the program says of itself.
-pub const PROGRAM: &str = "earliest";
+use console::programs::About;
 
-pub const VERSION: &str = "earliest 0.1.0\n";
+pub const ABOUT: About = About {
+    program: "earliest",
+    version: "earliest 0.1.0\n",
+    help: HELP,
+};
 
-pub const HELP: &str = "\
+const HELP: &str = "\
 Reads a clockwork, which is a timed automaton, and shows it.
 
 Usage: earliest [OPTION].. [FILE]

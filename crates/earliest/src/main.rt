@@ -3,8 +3,9 @@
 
 use crate::options::{Options, Output};
 use console::messages::{Problem, Report};
-use console::options::{BadCall, Request};
-use console::{input, numbers, texts};
+use console::programs::{NoWords, begin, tell};
+use console::{numbers, texts};
+use drawing::Drawing;
 use std::alloc::Global;
 use std::process::ExitCode;
 use std::{env, io};
@@ -13,20 +14,19 @@ mod help;
 mod options;
 mod summary;
 
-// What the options ask to be printed of the clockwork in the text.
-fn answer(heap: Global, options: &Options, bytes: &[u8]) -> Result<String, Problem> {
-    let drawing = texts::read(heap, options.form, bytes)?;
+// What the options ask to be printed of a clockwork.
+fn write_output(heap: Global, options: &Options, drawing: &Drawing) -> Result<String, Problem> {
     let row = drawing.row.as_slice();
     match options.output {
-        Output::Summary => Ok(summary::write(heap, texts::view(row)?, &drawing)?),
+        Output::Summary => Ok(summary::write(heap, texts::view(row)?, drawing)?),
         Output::Row => numbers::write(heap, row),
         Output::Drawing => texts::draw(heap, row),
     }
 }
 
 fn carry_out(rt: &HostRuntime, options: &Options) -> Result<(), Problem> {
-    let bytes = input::read(rt, options.source())?;
-    let text = answer(rt.alloc(), options, bytes.as_slice())?;
+    let drawing = options.text.read(rt)?;
+    let text = write_output(rt.alloc(), options, &drawing)?;
     rt.print(text.as_str()).map_err(Problem::Unwritable)
 }
 
@@ -35,27 +35,19 @@ fn main(rt: HostRuntime) -> io::Result<ExitCode> {
     let words = match env::args(&rt) {
         Ok(words) => words,
         Err(error) => {
-            eprintln!(rt; "earliest: the arguments cannot be read: {error}")?;
-            return Ok(ExitCode::FAILURE);
+            let program = help::ABOUT.program;
+            let error = &error;
+            return tell(&rt, NoWords { program, error });
         }
     };
-    match options::parse(words) {
-        Ok(Request::Help) => rt.print(help::HELP)?,
-        Ok(Request::Version) => rt.print(help::VERSION)?,
-        Ok(Request::Show(options)) => {
-            if let Err(problem) = carry_out(&rt, &options) {
-                let source = options.source();
-                let problem = &problem;
-                rt.eprintln(Report { source, problem })?;
-                return Ok(ExitCode::FAILURE);
-            }
-        }
-        Err(mistake) => {
-            let program = help::PROGRAM;
-            let mistake = &mistake;
-            rt.eprintln(BadCall { program, mistake })?;
-            return Ok(ExitCode::FAILURE);
-        }
+    let options = match begin(&rt, help::ABOUT, options::parse(words))? {
+        Ok(options) => options,
+        Err(status) => return Ok(status),
+    };
+    if let Err(problem) = carry_out(&rt, &options) {
+        let source = options.text.source();
+        let problem = &problem;
+        return tell(&rt, Report { source, problem });
     }
     Ok(ExitCode::SUCCESS)
 }

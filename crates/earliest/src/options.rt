@@ -1,7 +1,6 @@
 // The options of a call: what to read, and what to print of it.
-use console::input::Source;
-use console::options::{Mistake, Request, is_option, set_file};
-use console::texts::Form;
+use console::options::{Mistake, Request, is_option, set, set_file};
+use console::texts::{Form, Text};
 use std::env::Args;
 
 #[derive(Clone, Copy)]
@@ -13,27 +12,17 @@ pub enum Output {
 
 #[derive(Drop)]
 pub struct Options {
-    pub form: Form,
+    pub text: Text,
     pub output: Output,
-    file: Option<String>,
-}
-
-impl Options {
-    pub fn source(&self) -> Source<'_> {
-        Source::of(self.file.as_ref().map(|name| name.as_str()))
-    }
 }
 
 // What to print: only one thing may be asked for.
 fn set_output(output: &mut Option<Output>, asked: Output, word: String) -> Result<(), Mistake> {
-    if output.is_some() {
-        return Err(Mistake::SecondOutput(word));
-    }
-    *output = Some(asked);
-    Ok(())
+    set(output, asked).map_err(|_| Mistake::SecondOutput(word))
 }
 
-// The words of the call, of which the first is the program's own name.
+// The words of the call, of which the first is the program's own name. clap is not used: it words its messages and its help in its own way,
+// and what the program prints is to stay.
 pub fn parse(words: Args) -> Result<Request<Options>, Mistake> {
     let mut form = Form::Drawing;
     let mut output = None;
@@ -55,8 +44,7 @@ pub fn parse(words: Args) -> Result<Request<Options>, Mistake> {
         }
     }
     Ok(Request::Show(Options {
-        form,
+        text: Text { form, file },
         output: output.unwrap_or(Output::Summary),
-        file,
     }))
 }

@@ -14,6 +14,12 @@ struct Summary<'a> {
     names: &'a Drawing,
 }
 
+// As `1 clock:` or `2 clocks:`.
+fn write_count<W: fmt::Write>(f: &mut W, count: usize, what: &str) -> fmt::Result {
+    let plural = if count == 1 { "" } else { "s" };
+    write!(f, "{count} {what}{plural}:")
+}
+
 impl<'a> Summary<'a> {
     fn clock(&self, clock: Clock) -> Name<'a> {
         Name {
@@ -48,8 +54,7 @@ impl<'a> Summary<'a> {
 
     fn write_clocks<W: fmt::Write>(&self, f: &mut fmt::Formatter<W>) -> fmt::Result {
         let count = self.automaton.clocks();
-        let plural = if count == 1 { "" } else { "s" };
-        write!(f, "{count} clock{plural}:")?;
+        write_count(f, count as usize, "clock")?;
         for number in 0..count {
             write!(f, " {}", self.clock(Clock(number)))?;
         }
@@ -58,8 +63,8 @@ impl<'a> Summary<'a> {
 
     fn write_positions<W: fmt::Write>(&self, f: &mut fmt::Formatter<W>) -> fmt::Result {
         let count = self.automaton.locations();
-        let plural = if count == 1 { "" } else { "s" };
-        write!(f, "{count} position{plural}:\n")?;
+        write_count(f, count as usize, "position")?;
+        f.write_str("\n")?;
         for (number, tests) in (0..count).zip(self.automaton.invariants()) {
             write!(f, "  {number} {}", self.position(Location(number)))?;
             self.write_tests(f, ": ", tests)?;
@@ -82,11 +87,11 @@ impl<'a> Summary<'a> {
 
     fn write_steps<W: fmt::Write>(&self, f: &mut fmt::Formatter<W>) -> fmt::Result {
         let count = self.automaton.edges().count();
-        match count {
-            0 => return f.write_str("no steps\n"),
-            1 => f.write_str("1 step:\n")?,
-            _ => write!(f, "{count} steps:\n")?,
+        if count == 0 {
+            return f.write_str("no steps\n");
         }
+        write_count(f, count, "step")?;
+        f.write_str("\n")?;
         for (number, edge) in self.automaton.edges().enumerate() {
             write!(f, "  {number} ")?;
             self.write_step(f, edge)?;
