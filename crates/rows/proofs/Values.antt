@@ -1,5 +1,5 @@
 -- What words and views stand for, where they are the writing of constraints, an edge or an automaton.
-use Rattle.std.proofs.Common.{◌≡◌, ℕ, zero, suc, ◌+◌, ◌*◌, ◌/◌, ◌<◌, List, [], ◌∷◌, length, get_or, Some, sym, refl, ap, subst, ◌∙◌, arith}
+use Rattle.std.proofs.Common.{◌≡◌, ℕ, ◌/◌, List, [], ◌∷◌, length, Some, sym, refl, ap, subst, ◌∙◌, arith}
 use mathlib.Core.Option.{Option, some}
 use Rattle.automata.specs.Automata as automata
 use Rattle.automata.specs.Automata.{nth}
@@ -8,7 +8,6 @@ use Rattle.rows.specs.declared.constraints.Conjunction.{Conjunction}
 use Rattle.rows.specs.declared.edges.Edge.{Edge}
 use Rattle.rows.specs.declared.views.Automaton.{Automaton}
 use Rattle.rows.specs.EdgeParts.{EdgeIs}
-use Rattle.rows.specs.Parse.{constraint}
 use Rattle.rows.specs.Values.{constraints_value, conjunction_value, edge_value}
 use Rattle.rows.specs.Viewed.{or_nothing, value_of}
 use Rattle.rows.specs.Views.{Views, automaton_value, InvariantIs}
@@ -29,24 +28,6 @@ length-constraints_value [] = refl
 length-constraints_value (c ∷ []) = refl
 length-constraints_value (c ∷ r ∷ []) = refl
 length-constraints_value (c ∷ r ∷ b ∷ ws) = omega (arith, length-constraints_value ws)
-
-abbrev constraint_at : List ℕ → ℕ → automata.Constraint
-constraint_at ws at = constraint (get_or ws at 0) (get_or ws (at + 1) 0) (get_or ws (at + 2) 0)
-
-shifted : (a b c : ℕ) (ws : List ℕ) (i j : ℕ) → j ≡ suc (suc (suc i)) → get_or (a ∷ b ∷ c ∷ ws) j 0 ≡ get_or ws i 0
-shifted a b c ws i j e = rw e
-
-pub constraint-at : (ws : List ℕ) (i : ℕ) → 3 * i + 2 < length ws → nth (constraints_value ws) i ≡ some (constraint_at ws (3 * i))
-constraint-at [] i h = absurd (omega arith)
-constraint-at (c ∷ []) i h = absurd (omega arith)
-constraint-at (c ∷ r ∷ []) i h = absurd (omega arith)
-constraint-at (c ∷ r ∷ b ∷ ws) zero h = refl
-constraint-at (c ∷ r ∷ b ∷ ws) (suc i) h =
-    let ih = constraint-at ws i (omega arith) in
-    let e = shifted c r b ws (3 * i) (3 * suc i) (omega arith) in
-    let f = shifted c r b ws (3 * i + 1) (3 * suc i + 1) (omega arith) in
-    let g = shifted c r b ws (3 * i + 2) (3 * suc i + 2) (omega arith) in
-    rw (e, f, g) ih
 
 -- an edge that has these parts stands for it
 pub edge_value-is : (v : Edge) (e : automata.Edge) → EdgeIs v e → edge_value v ≡ e

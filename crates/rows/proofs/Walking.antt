@@ -1,5 +1,5 @@
 -- Going over a row word by word: what each step says of the reading from there on.
-use Rattle.std.proofs.Common.{◌≡◌, ℕ, zero, suc, ◌+◌, ◌-◌, ◌<◌, ◌≤◌, true, List, [], ◌∷◌, length, get_or, drop, Ok, Err, Result, refl, ap, ◌∙◌, subst, zero-add, add-one, arith, length-append, length-drop, drop_of_length-le, drop-cons, le-ltb, lt-ltb, inl, inr}
+use Rattle.std.proofs.Common.{◌≡◌, ℕ, zero, suc, ◌+◌, ◌-◌, ◌<◌, ◌≤◌, true, List, [], ◌∷◌, length, get_or, drop, Ok, Err, Result, refl, ap, ◌∙◌, subst, zero-add, add-one, arith, length-append, drop_of_length-le, drop-cons, le-ltb, lt-ltb, inl, inr}
 use Rattle.std.proofs.lemmas.Bool.{cases_lt}
 use mathlib.Core.Option.{some, none}
 use Rattle.automata.specs.Automata.{Constraint, Edge}
@@ -116,18 +116,6 @@ counted-tells parse row whole v at r run step none_of_it ends starts =
     ]
 
 -- a constraint
-few_words : (n r k : ℕ) (ws : List ℕ) → length ws < 3 → parse_constraints n r (suc k) ws ≡ none
-few_words n r k [] h = refl
-few_words n r k (a ∷ []) h = refl
-few_words n r k (a ∷ b ∷ []) h = refl
-few_words n r k (a ∷ b ∷ c ∷ ws) h = absurd (omega arith)
-
-pub constraint-ends : (n r : ℕ) (row : List ℕ) (at : ℕ)
-    → length row < at + 3
-    → (k : ℕ)
-    → parse_constraints n r (suc k) (drop at row) ≡ none
-constraint-ends n r row at h k = few_words n r k (drop at row) (simp length-drop (omega arith))
-
 module _ (n r : ℕ) (row : List ℕ) (at : ℕ) (room : at + 3 ≤ length row) where
   pub constraint-fits : fits n r (get_or row at 0) (get_or row (at + 1) 0) (get_or row (at + 2) 0) ≡ true
       → (k : ℕ)
@@ -180,27 +168,7 @@ pub resets-start : (n : ℕ) (row : List ℕ) (at : ℕ)
 resets-start n row at h = rw (drop-one row at h)
 
 -- an edge
-few_ends : (n p : ℕ) (ws : List ℕ) → length ws < 2 → parse_edge n p ws ≡ none
-few_ends n p [] h = refl
-few_ends n p (a ∷ []) h = refl
-few_ends n p (a ∷ b ∷ ws) h = absurd (omega arith)
-
-pub edge-ends : (n p : ℕ) (row : List ℕ) (at : ℕ) → length row < at + 2 → parse_edge n p (drop at row) ≡ none
-edge-ends n p row at h = few_ends n p (drop at row) (simp length-drop (omega arith))
-
 module _ (n p : ℕ) (row : List ℕ) (at : ℕ) (room : at + 2 ≤ length row) where
-  pub edge-source : p ≤ get_or row at 0 → parse_edge n p (drop at row) ≡ none
-  edge-source h = rw (drop-two row at room, le-ltb (get_or row at 0) p h)
-
-  pub edge-target : get_or row at 0 < p → p ≤ get_or row (at + 1) 0 → parse_edge n p (drop at row) ≡ none
-  edge-target h i = rw (drop-two row at room, lt-ltb (get_or row at 0) p h, le-ltb (get_or row (at + 1) 0) p i)
-
-  pub edge-guard : get_or row at 0 < p
-      → get_or row (at + 1) 0 < p
-      → parse_conjunction n all_relations (drop (at + 2) row) ≡ none
-      → parse_edge n p (drop at row) ≡ none
-  edge-guard h i e = rw (drop-two row at room, lt-ltb (get_or row at 0) p h, lt-ltb (get_or row (at + 1) 0) p i, e)
-
   pub edge-resets : (guard : List Constraint) (rest : List ℕ)
       → get_or row at 0 < p
       → get_or row (at + 1) 0 < p

@@ -30,6 +30,7 @@ pub enum Relation {
 #[derive(Clone, Copy, Debug, PartialEq, Eq)]
 pub struct UnknownRelation(pub u32);
 
+// By hand, as `Error` below: of the text a clause speaks, and thiserror's derive writes none.
 impl fmt::Display for UnknownRelation {
     ghost output = { λ unknown. Some (codes "no relation has number " ++ decimal unknown.0) };
 
@@ -159,16 +160,7 @@ impl<'a> Conjunction<'a> {
     pub fn get(&self, place: usize) -> Option<Constraint>
         ensures { ConstraintIs (nth (conjunction_value self.now) place) result }
     {
-        // by places: a pattern of `self.words.get(place.checked_mul(3)?..)?` is no plainer, since it has three ways out in place of one
-        if place >= self.words.len() / 3 {
-            return None;
-        }
-        let at = 3 * place;
-        Some(Constraint {
-            clock: Clock(self.words[at]),
-            relation: decode_relation(self.words[at + 1]),
-            bound: self.words[at + 2],
-        })
+        self.iter().nth(place)
     }
 
     pub fn iter(&self) -> Constraints<'a>

@@ -67,20 +67,17 @@ impl Reader<'_> {
     fn check_constraint(&self, at: usize, owner: Owner) -> Result<usize, Refusal>
         ensures { Step (parse_constraints self.now.clocks (relations_of owner)) self.now.row.now at result }
     {
-        let row = self.row;
-        // by places, here and in `check_edge`: tried with `let Some([clock, relation, bound, ..]) = row.get(at..) else`, and the proof did not
-        // close: of a part that is too short no fact can be cited (goal `returns-in_default`)
-        if at > row.len() || row.len() - at < 3 {
-            return Err(self.ends());
-        }
-        if row[at] >= self.clocks {
+        let clock = self.word(at)?;
+        let relation = self.word(at + 1)?;
+        let bound = self.word(at + 2)?;
+        if clock >= self.clocks {
             return Err(Rule::Clock.at(at));
         }
-        let relation = Relation::try_from(row[at + 1]).map_err(|_| Rule::Relation.at(at + 1))?;
+        let relation = Relation::try_from(relation).map_err(|_| Rule::Relation.at(at + 1))?;
         if !owner.takes(relation) {
             return Err(Rule::LowerBound.at(at + 1));
         }
-        if row[at + 2] > MOST_BOUND {
+        if bound > MOST_BOUND {
             return Err(Rule::Bound.at(at + 2));
         }
         Ok(at + 3)
@@ -125,14 +122,12 @@ impl Reader<'_> {
     fn check_edge(&self, at: usize) -> Result<usize, Refusal>
         ensures { Tells (parse_edge self.now.clocks self.now.locations) self.now.row.now at result }
     {
-        let row = self.row;
-        if at > row.len() || row.len() - at < 2 {
-            return Err(self.ends());
-        }
-        if row[at] >= self.locations {
+        let source = self.word(at)?;
+        let target = self.word(at + 1)?;
+        if source >= self.locations {
             return Err(Rule::Location.at(at));
         }
-        if row[at + 1] >= self.locations {
+        if target >= self.locations {
             return Err(Rule::Location.at(at + 1));
         }
         let guard_end = self.check_conjunction(at + 2, Owner::Edge)?;
@@ -162,14 +157,12 @@ pub fn read(row: &[u32]) -> Result<Automaton<'_>, Refusal>
     if row.len() > MOST_WORDS {
         return Err(Rule::TooLong.at(MOST_WORDS));
     }
-    if row.len() < 2 {
+    let [clocks, locations, ..] = *row else {
         return Err(Rule::Ends.at(row.len()));
-    }
-    let clocks = row[0];
+    };
     if clocks < 1 || clocks > MOST_CLOCKS {
         return Err(Rule::Clocks.at(0));
     }
-    let locations = row[1];
     if locations < 1 || locations > MOST_LOCATIONS {
         return Err(Rule::Locations.at(1));
     }

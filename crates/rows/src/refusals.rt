@@ -62,6 +62,7 @@ impl fmt::Display for Rule {
     }
 }
 
+// By hand, as `Error` below: of the text a clause speaks, and thiserror's derive writes none.
 impl fmt::Display for Refusal {
     ghost output = { λ refusal. Some (rule_text refusal.rule ++ (codes " at word " ++ decimal refusal.word)) };
 

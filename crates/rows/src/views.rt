@@ -130,8 +130,7 @@ impl<'a> Iterator for Invariants<'a> {
     ghost remaining = { λ s. at_most s.placed.left };
 
     fn next(&mut self) -> Option<Conjunction<'a>> {
-        let (_, conjunction) = self.placed.next()?;
-        Some(conjunction)
+        self.placed.next().map(|(_, conjunction)| conjunction)
     }
 }
 
@@ -145,7 +144,6 @@ impl<'a> Iterator for Edges<'a> {
     ghost remaining = { λ s. at_most (length s.placed.row.now - s.placed.at) };
 
     fn next(&mut self) -> Option<Edge<'a>> {
-        let (_, edge) = self.placed.next()?;
-        Some(edge)
+        self.placed.next().map(|(_, edge)| edge)
     }
 }

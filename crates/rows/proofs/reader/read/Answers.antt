@@ -17,11 +17,11 @@ returns-then-row-gt-MOST_WORDS c =
       values = values_stand;
     }
 
-pub returns-then-row-lt2 : goal.returns-then-row-lt2
-returns-then-row-lt2 c =
+pub returns-in_default : goal.returns-in_default
+returns-in_default c =
     record {
       post =
-          rw c.at-then-row-lt2.ensures (refused c.args.row.now (record { rule = Ends; word = length c.args.row.now }) (parse-short c.args.row.now c.if-row-lt2.true) refl);
+          rw c.at-in_default.ensures (refused c.args.row.now (record { rule = Ends; word = length c.args.row.now }) (parse-short c.args.row.now c.in_default.len_below) refl);
       round = rows_round;
       values = values_stand;
     }
@@ -60,7 +60,7 @@ returns-in_err-edges c =
       post =
           let p = err_from_is_err_and c.from_residual.result c.from_residual.ensures.1 in
           let e = c.in_err-edges.ensures in
-          rw (p.1, p.2) (refused c.args.row.now _ (parse-invariants c.args.row.now c.if-row-lt2.false e.0) e.1);
+          rw (p.1, p.2) (refused c.args.row.now _ (parse-invariants c.args.row.now c.in-len2-up.len_at_least e.0) e.1);
       round = rows_round;
       values = values_stand;
     }
@@ -83,7 +83,7 @@ pub new-requires : goal.new-requires
 new-requires c =
     let e = c.in_ok-edges.ensures in
     let f = c.in_ok-check_edges.ensures in
-    viewed c.args.row.now e.2.0 c.in_ok-edges.edges f.0 f.1 c.if-row-lt2.false c.if-row-gt-MOST_WORDS.false c.if-clocks-lt1.false c.if-clocks-gt-MOST_CLOCKS.false c.if-locations-lt1.false c.if-locations-gt-MOST_LOCATIONS.false e.2.1 f.2
+    viewed c.args.row.now e.2.0 c.in_ok-edges.edges f.0 f.1 c.in-len2-up.len_at_least c.if-row-gt-MOST_WORDS.false c.if-clocks-lt1.false c.if-clocks-gt-MOST_CLOCKS.false c.if-locations-lt1.false c.if-locations-gt-MOST_LOCATIONS.false e.2.1 f.2
 
 pub returns : goal.returns
 returns c = record { post = accepted c.args.row.now c.new.result c.new.ensures.row_is; round = rows_round; values = values_stand }

@@ -1,5 +1,6 @@
 -- The next edge is the one that is given with its word.
-use Rattle.std.proofs.Common.{◌≡◌, ℕ, List, [], ◌∷◌, drop, None, Some, sym, refl, subst}
+use Rattle.std.proofs.Common.{◌≡◌, ℕ, List, [], ◌∷◌, drop, None, Some, Option, sym, refl, subst, rules}
+use Rattle.std.specs.Option.{MatchOption, IsSomeAnd}
 use Rattle.automata.specs.Automata as automata
 use Rattle.automata.specs.Rows.{write_edges}
 use Rattle.rows.specs.declared.edges.Edge.{Edge}
@@ -8,25 +9,19 @@ use Rattle.rows.specs.Placed.{NextPlacedEdge}
 use Rattle.rows.specs.Views.{NextEdge}
 use Rattle.rows.proofs.views.EdgesIterator.next.Goals as goal
 
-some_edge : (row : List ℕ) (es : List automata.Edge) (at : ℕ) (v : Edge) (t : Edges)
-    → NextPlacedEdge row es (Some (at, v)) t.placed
-    → NextEdge es (Some v) t
-some_edge row [] at v t next = absurd next
-some_edge row (e ∷ es) at v t next =
-    (next.1, subst (λ (z : List ℕ). drop t.placed.at z ≡ write_edges es) (sym next.2.row_is) next.2.words)
-
-no_edge : (row : List ℕ) (es : List automata.Edge) (t : Edges) → NextPlacedEdge row es None t.placed → NextEdge es None t
-no_edge row [] t next = tt
-no_edge row (e ∷ es) t next = absurd next
-
-pub returns-in_err-edge-clause-steps : goal.returns-in_err-edge-clause-steps
-returns-in_err-edge-clause-steps c =
-    rw
-    c.from_residual.ensures
-    (λ es are.
-    no_edge c.args.self.now.placed.row.now es (record { placed = c.next.new.self }) (c.in_err-edge.ensures.steps c.args.self.now.placed.row.now es (record { row_is = refl; words = are })))
+next_edge : (Makes : ℕ × Edge → Edge → Type 0) (row : List ℕ) (es : List automata.Edge) (placed : Option (ℕ × Edge)) (edge : Option Edge) (t : Edges)
+    → MatchOption placed (edge ≡ None) (λ p. IsSomeAnd edge (Makes p))
+    → ((p : ℕ × Edge) (v : Edge) → Makes p v → v ≡ p.1)
+    → NextPlacedEdge row es placed t.placed
+    → NextEdge es edge t
+next_edge Makes row [] None edge t none is next = rw none tt
+next_edge Makes row [] (Some p) edge t some is next = absurd next
+next_edge Makes row (e ∷ es) None edge t none is next = absurd next
+next_edge Makes row (e ∷ es) (Some p) None t some is next = absurd some
+next_edge Makes row (e ∷ es) (Some p) (Some v) t some is next =
+    rw (is p v some) (next.1, subst (λ (z : List ℕ). drop t.placed.at z ≡ write_edges es) (sym next.2.row_is) next.2.words)
 
 pub returns-clause-steps : goal.returns-clause-steps
 returns-clause-steps c =
     λ es are.
-    some_edge c.args.self.now.placed.row.now es _ c.in_ok-edge.edge (record { placed = c.next.new.self }) (c.in_ok-edge.ensures.steps c.args.self.now.placed.row.now es (record { row_is = refl; words = are }))
+    next_edge _ c.args.self.now.placed.row.now es c.next.result c.map.result (record { placed = c.next.new.self }) c.map.ensures.cases (λ p v q. search rules) (c.next.ensures.steps c.args.self.now.placed.row.now es (record { row_is = refl; words = are }))
