@@ -1,8 +1,11 @@
 -- A row that is written part by part: what one more part adds, and what a loop over the parts has come to.
-use Rattle.std.proofs.Common.{◌≡◌, ℕ, ◌+◌, ◌<◌, ◌≤◌, Bool, true, ◌&&◌, T, ltb, leb, List, [], ◌∷◌, ◌++◌, map, length, get_or, take, vec_items, sym, refl, ap, ◌∙◌, subst, append_assoc, append-nil}
+use Rattle.std.proofs.Common.{◌≡◌, ℕ, ◌+◌, ◌<◌, ◌≤◌, Bool, true, ◌&&◌, ltb, leb, List, [], ◌∷◌, ◌++◌, map, length, get_or, take, vec_items, sym, refl, ap, ◌∙◌, append_assoc, append-nil}
 use lib.ListN.{length-map}
 use Rattle.std.specs.List.{flat_map, list_all}
-use Rattle.std.proofs.lemmas.List.{take_more, take_all}
+use Rattle.std.proofs.lemmas.List.{take_more, take_all, map-id, flat_map_more}
+use Rattle.std.proofs.lemmas.List.Concat.{flat_map_single}
+use Rattle.std.proofs.lemmas.List.Folds.{list_all_more}
+use Rattle.std.proofs.lemmas.Float.{T_from_true}
 use Rattle.std.proofs.lemmas.Bool.{and_from, and_parts, le-leb}
 use Rattle.automata.specs.Rows.{Reads, upper, write_constraints, write_invariants, write_edges, fine_constraint, fine_guard, fine_invariant, fine_invariants, fine_resets, fine_edge, fine_edges}
 use Rattle.rows.specs.declared.constraints.Constraint.{Constraint as Test}
@@ -23,53 +26,14 @@ adds_same {xs = xs} e p = record { longer = p.longer ∙ ap (λ (l : List ℕ). 
 pub adds_none : {xs : List ℕ} → Adds xs [] xs
 adds_none {xs = xs} = record { longer = sym (append-nil xs) }
 
--- W writes a list of parts by w, one after the other; F says by f that each of them fits
-pub record Walk {X : Type 0} (w : X → List ℕ) (W : List X → List ℕ) (f : X → Bool) (F : List X → Bool) : Type 0 where
-  pub no_words : W [] ≡ []
-  pub more_words : (x : X) (xs : List X) → W (x ∷ xs) ≡ w x ++ W xs
-  pub none_fits : F [] ≡ true
-  pub more_fit : (x : X) (xs : List X) → F (x ∷ xs) ≡ (f x && F xs)
+-- a loop over parts has written one more
+pub adds_part : {X : Type 0} {start row next : List ℕ} (w : X → List ℕ) (xs : List X) (i : ℕ) (x d : X) → i < length xs → x ≡ get_or xs i d → Adds start (flat_map w (take i xs)) row → Adds row (w x) next → Adds start (flat_map w (take (i + 1) xs)) next
+adds_part w xs i x d lt is h one =
+    let e : take (i + 1) xs ≡ take i xs ++ x ∷ [] = take_more xs i d lt ∙ ap (λ (y : _). take i xs ++ y ∷ []) (sym is) in
+    adds_same (flat_map_more w [] (take i xs) x ∙ ap (flat_map w) (sym e)) (adds_more h one)
 
-module _ {X : Type 0} {w : X → List ℕ} {W : List X → List ℕ} {f : X → Bool} {F : List X → Bool} (walk : Walk w W f F) where
-  words_push : (xs : List X) (x : X) → W (xs ++ x ∷ []) ≡ W xs ++ w x
-  words_push [] x =
-      walk.more_words x [] ∙ ap (λ (l : List ℕ). w x ++ l) walk.no_words ∙ append-nil (w x)
-      ∙ sym (ap (λ (l : List ℕ). l ++ w x) walk.no_words)
-  words_push (y ∷ ys) x =
-      walk.more_words y (ys ++ x ∷ []) ∙ ap (λ (l : List ℕ). w y ++ l) (words_push ys x)
-      ∙ sym (append_assoc (w y) (W ys) (w x)) ∙ sym (ap (λ (l : List ℕ). l ++ w x) (walk.more_words y ys))
-
-  fits-push : (xs : List X) (x : X) → F xs ≡ true → f x ≡ true → F (xs ++ x ∷ []) ≡ true
-  fits-push [] x p q = walk.more_fit x [] ∙ and_from _ _ q walk.none_fits
-  fits-push (y ∷ ys) x p q =
-      let both = and_parts (f y) (F ys) (sym (walk.more_fit y ys) ∙ p) in
-      walk.more_fit y (ys ++ x ∷ []) ∙ and_from _ _ both.0 (fits-push ys x both.1 q)
-
--- the first i parts of xs are written after start, and fit
-pub record Sofar {X : Type 0} (W : List X → List ℕ) (F : List X → Bool) (start : List ℕ) (xs : List X) (i : ℕ) (row : List ℕ) : Type 0 where
-  pub written : Adds start (W (take i xs)) row
-  pub fits : F (take i xs) ≡ true
-
-module _ {X : Type 0} {w : X → List ℕ} {W : List X → List ℕ} {f : X → Bool} {F : List X → Bool} (walk : Walk w W f F) where
-  pub sofar_none : (row : List ℕ) (xs : List X) → Sofar W F row xs 0 row
-  sofar_none row xs =
-      record {
-        written = record { longer = sym (append-nil row) ∙ sym (ap (λ (l : List ℕ). row ++ l) walk.no_words) };
-        fits = walk.none_fits;
-      }
-
-  pub sofar_more : (start : List ℕ) (xs : List X) (i : ℕ) (row next : List ℕ) (x d : X) → i < length xs → x ≡ get_or xs i d → Sofar W F start xs i row → Adds row (w x) next → f x ≡ true → Sofar W F start xs (i + 1) next
-  sofar_more start xs i row next x d lt is h adds fit =
-      let e : take (i + 1) xs ≡ take i xs ++ x ∷ [] = take_more xs i d lt ∙ ap (λ (y : X). take i xs ++ y ∷ []) (sym is) in
-      record {
-        written = adds_same (sym (words_push walk (take i xs) x) ∙ ap W (sym e)) (adds_more h.written adds);
-        fits = ap F e ∙ fits-push walk (take i xs) x h.fits fit;
-      }
-
-  pub sofar_all : (start : List ℕ) (xs : List X) (i : ℕ) (row : List ℕ) → length xs ≤ i → Sofar W F start xs i row → Adds start (W xs) row × (F xs ≡ true)
-  sofar_all start xs i row le h =
-      let e : take i xs ≡ xs = take_all i xs le in
-      (adds_same (ap W e) h.written, sym (ap F e) ∙ h.fits)
+pub adds_all : {X : Type 0} {start row : List ℕ} (w : X → List ℕ) (xs : List X) (i : ℕ) → length xs ≤ i → Adds start (flat_map w (take i xs)) row → Adds start (flat_map w xs) row
+adds_all w xs i le h = adds_same (ap (flat_map w) (take_all i xs le)) h
 
 -- the writer of a part, then of another, has written both
 pub wrote_none : (w : Writer) → Wrote w w [] (λ n p. true)
@@ -90,17 +54,12 @@ pub wrote_as : {a b : Writer} {ws vs : List ℕ} {f g : ℕ → ℕ → Bool} �
 wrote_as {a = a} e imp h =
     record { adds = adds_same e h.adds; fine = imp a.clocks a.positions h.fine; clocks = h.clocks; positions = h.positions }
 
-each_walk : {X : Type 0} (w : X → List ℕ) (f : X → Bool) → Walk w (flat_map w) f (list_all f)
-each_walk w f = record { no_words = refl; more_words = λ _ _. refl; none_fits = refl; more_fit = λ _ _. refl }
-
--- a loop over parts has written one more
 pub wrote_more : {X : Type 0} (w : X → List ℕ) (f : ℕ → ℕ → X → Bool) (xs : List X) (i : ℕ) (a b c : Writer) (x d : X) → i < length xs → x ≡ get_or xs i d → Wrote a b (flat_map w (take i xs)) (λ n p. list_all (f n p) (take i xs)) → Wrote b c (w x) (λ n p. f n p x) → Wrote a c (flat_map w (take (i + 1) xs)) (λ n p. list_all (f n p) (take (i + 1) xs))
 wrote_more w f xs i a b c x d lt is h one =
     let e : take (i + 1) xs ≡ take i xs ++ x ∷ [] = take_more xs i d lt ∙ ap (λ (y : _). take i xs ++ y ∷ []) (sym is) in
     wrote_as
-    (sym (words_push (each_walk w (f 0 0)) (take i xs) x) ∙ ap (flat_map w) (sym e))
-    (λ n p q. let both = and_parts (list_all (f n p) (take i xs)) (f n p x) q in
-    ap (list_all (f n p)) e ∙ fits-push (each_walk w (f n p)) (take i xs) x both.0 both.1)
+    (flat_map_more w [] (take i xs) x ∙ ap (flat_map w) (sym e))
+    (λ n p q. list_all_more (f n p) xs i d lt ∙ ap (λ (y : _). list_all (f n p) (take i xs) && f n p y) (sym is) ∙ q)
     (wrote_then h one)
 
 pub wrote_all : {X : Type 0} (w : X → List ℕ) (f : ℕ → ℕ → X → Bool) (xs : List X) (i : ℕ) (a b : Writer) → length xs ≤ i → Wrote a b (flat_map w (take i xs)) (λ n p. list_all (f n p) (take i xs)) → Wrote a b (flat_map w xs) (λ n p. list_all (f n p) xs)
@@ -126,8 +85,7 @@ tests_fit_position n (t ∷ ts) q u =
     and_from _ _ (and_from _ _ fit.0 bound.0) (tests_fit_position n ts fit.1 bound.1)
 
 words_of_resets : (rs : List ℕ) → flat_map (λ (r : ℕ). r ∷ []) rs ≡ rs
-words_of_resets [] = refl
-words_of_resets (r ∷ rs) = ap (λ (l : List ℕ). r ∷ l) (words_of_resets rs)
+words_of_resets rs = flat_map_single (λ (r : ℕ). r) rs ∙ map-id rs
 
 resets_fit : (n : ℕ) (rs : List ℕ) → list_all (λ r. ltb r n) rs ≡ true → fine_resets n rs ≡ true
 resets_fit n [] q = refl
@@ -175,9 +133,6 @@ step_written s ts rs et er ends tests resets =
     wrote_as (listed_resets rs ∙ ap resets_words er) (λ n p q. ap (fine_resets n) (sym er) ∙ resets_fit n rs q) resets in
     wrote_then ends (wrote_then guard back)
 
-holds : {b : Bool} → b ≡ true → T b
-holds e = subst T (sym e) tt
-
 -- the head of the row, the positions and the steps make the writing of the automaton
 pub row_reads : {a b d : Writer} (c : Clockwork) (ps : List Position) (ss : List Step) → vec_items a.row ≡ c.clocks ∷ [] → a.clocks ≡ c.clocks → a.positions ≡ length ps → ps ≡ vec_items c.positions → ss ≡ vec_items c.steps → (1 ≤ c.clocks) × (c.clocks ≤ 8) → (1 ≤ length ps) × (length ps ≤ 256) → Wrote a b (length ps ∷ flat_map position_words ps) (λ n p. list_all (λ q. fine_invariant n (invariant_of q)) ps) → Wrote b d (flat_map step_words ss) (λ n p. list_all (λ s. fine_edge n p (edge s)) ss) → length (vec_items d.row) ≤ 16384 → Reads (vec_items d.row) (automaton c)
 row_reads {a = a} c ps ss first ec ep eps ess clocks positions h k short =
@@ -195,6 +150,6 @@ row_reads {a = a} c ps ss first ec ep eps ess clocks positions h k short =
     ap (λ (m : ℕ). fine_edges n m (automaton c).edges) (sym is) ∙ (ap (λ (m : ℕ). fine_edges m (length ps) (automaton c).edges) (sym ec) ∙ (ap (λ (l : List Step). fine_edges a.clocks (length ps) (map edge l)) (sym ess) ∙ (ap (λ (m : ℕ). fine_edges a.clocks m (map edge ss)) (sym ep) ∙ steps_fit a.clocks a.positions ss both.1))) in
     record {
       written = sym (all.adds.longer ∙ (ap (λ (l : List ℕ). l ++ (length ps ∷ (flat_map position_words ps ++ flat_map step_words ss))) first ∙ ap (λ (l : List ℕ). n ∷ l) words));
-      sound = holds (and_from _ _ (and_from _ _ (le-leb 1 n clocks.0) (le-leb n 8 clocks.1)) (and_from _ _ (ap (λ (k : ℕ). leb 1 k && leb k 256) (sym is) ∙ and_from _ _ (le-leb 1 _ positions.0) (le-leb _ 256 positions.1)) (and_from _ _ invariants edges)));
+      sound = T_from_true _ (and_from _ _ (and_from _ _ (le-leb 1 n clocks.0) (le-leb n 8 clocks.1)) (and_from _ _ (ap (λ (k : ℕ). leb 1 k && leb k 256) (sym is) ∙ and_from _ _ (le-leb 1 _ positions.0) (le-leb _ 256 positions.1)) (and_from _ _ invariants edges)));
       short = short;
     }

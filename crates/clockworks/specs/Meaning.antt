@@ -1,10 +1,11 @@
 -- The automaton that the parts of a clockwork stand for, the words that each part adds to a row, and what a writer of parts has done.
-use Rattle.std.specs.Prelude.{◌≡◌, ℕ, Bool, true, List, [], ◌∷◌, ◌++◌, map, length, vec_items}
+use Rattle.std.specs.Prelude.{◌≡◌, ℕ, Bool, true, List, [], ◌∷◌, ◌++◌, map, length, vec_items, string_bytes, String}
 use Rattle.std.specs.List.{list_all}
 use Rattle.automata.specs.Automata.{Constraint, Edge, Automaton}
 use Rattle.automata.specs.Rows.{code, upper, write_constraints}
 use Rattle.rows.specs.declared.constraints.Constraint.{Constraint as Test}
 use Rattle.rows.specs.Parts.{relation_value, constraint_value}
+use Rattle.std.specs.declared.alloc.Global.{Global}
 use Rattle.clockworks.specs.declared.parts.Position.{Position}
 use Rattle.clockworks.specs.declared.parts.Step.{Step}
 use Rattle.clockworks.specs.declared.parts.Clockwork.{Clockwork}
@@ -36,6 +37,10 @@ automaton c =
 -- ys is xs with the words ws after it
 pub record Adds (xs ws ys : List ℕ) : Type 0 where
   pub longer : ys ≡ xs ++ ws
+
+-- the text is the old one with these bytes after it
+abbrev pub AddsText : String Global → List ℕ → String Global → Type 0
+AddsText old bytes new = Adds (string_bytes old) bytes (string_bytes new)
 
 -- the words of each part, as the writing of an automaton has them
 abbrev pub test_words : Test → List ℕ

@@ -130,9 +130,8 @@ impl Part for Test {
         if self.bound > MOST_BOUND {
             return Err(Unfit::Bound);
         }
-        writer.row.push(self.clock.0)?;
-        writer.row.push(u32::from(self.relation))?;
-        writer.row.push(self.bound)?;
+        let words = [self.clock.0, u32::from(self.relation), self.bound];
+        writer.row.extend_from_slice(&words)?;
         Ok(())
     }
 }
@@ -161,8 +160,7 @@ impl Part for Step {
         if self.source as usize >= writer.positions || self.target as usize >= writer.positions {
             return Err(Unfit::Position);
         }
-        writer.row.push(self.source)?;
-        writer.row.push(self.target)?;
+        writer.row.extend_from_slice(&[self.source, self.target])?;
         writer.list(self.tests.as_slice())?;
         writer.list(self.resets.as_slice())?;
         Ok(())
@@ -175,10 +173,10 @@ pub fn write_row(heap: Global, clockwork: &Clockwork) -> Result<Vec<u32>, Unfit>
 {
     let clocks = clockwork.clocks;
     let positions = clockwork.positions.len();
-    if clocks < 1 || clocks > MOST_CLOCKS {
+    if !(1..=MOST_CLOCKS).contains(&clocks) {
         return Err(Unfit::Clocks);
     }
-    if positions < 1 || positions > LOCATIONS {
+    if !(1..=LOCATIONS).contains(&positions) {
         return Err(Unfit::Positions);
     }
     let mut row = Vec::new(heap);

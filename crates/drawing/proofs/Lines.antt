@@ -7,11 +7,8 @@ use Rattle.rows.specs.declared.constraints.Constraint.{Constraint as Test}
 use Rattle.clockworks.specs.declared.parts.Position.{Position}
 use Rattle.rows.specs.Parts.{constraint_value}
 use Rattle.clockworks.specs.Meaning.{Adds, constraints, invariant_of}
-use Rattle.clockworks.proofs.Writing.{Walk, adds_more, adds_same}
+use Rattle.clockworks.proofs.Writing.{adds_more, adds_same}
 use Rattle.drawing.specs.Sheets.{test_text, tests_text, clock_text, first_clocks, each_clock, resets_text, position_line, position_lines}
-
-pub text_walk : {X : Type 0} (w : X → List ℕ) → Walk w (flat_map w) (λ _. true) (λ _. true)
-text_walk w = record { no_words = refl; more_words = λ _ _. refl; none_fits = refl; more_fit = λ _ _. refl }
 
 pub clocks_more : {start text next : List ℕ} (n : ℕ) → Adds start (first_clocks n) text → Adds text (clock_text n) next → Adds start (first_clocks (n + 1)) next
 clocks_more n h one = adds_same (ap first_clocks (sym (add-one n))) (adds_more h one)

@@ -1,5 +1,6 @@
 -- How many numbers each part of a clockwork takes in the row, and the room that is left for more.
-use Rattle.std.specs.Prelude.{◌≡◌, ℕ, ◌+◌, ◌*◌, List, [], ◌∷◌, vec_items, vec_len}
+use Rattle.std.specs.Prelude.{◌≡◌, ℕ, ◌+◌, ◌*◌, vec_items, vec_len}
+use Rattle.std.specs.List.{sum_by}
 use Rattle.clockworks.specs.declared.parts.Position.{Position}
 use Rattle.clockworks.specs.declared.parts.Step.{Step}
 use Rattle.clockworks.specs.declared.parts.Clockwork.{Clockwork}
@@ -18,16 +19,8 @@ position_size p = 1 + 3 * vec_len p.tests
 abbrev pub step_size : Step → ℕ
 step_size s = 4 + 3 * vec_len s.tests + vec_len s.resets
 
-abbrev pub size_of_positions : List Position → ℕ
-size_of_positions [] = 0
-size_of_positions (p ∷ ps) = position_size p + size_of_positions ps
-
-abbrev pub size_of_steps : List Step → ℕ
-size_of_steps [] = 0
-size_of_steps (s ∷ ss) = step_size s + size_of_steps ss
-
 abbrev pub parts_size : Clockwork → ℕ
-parts_size c = size_of_positions (vec_items c.positions) + size_of_steps (vec_items c.steps)
+parts_size c = sum_by position_size (vec_items c.positions) + sum_by step_size (vec_items c.steps)
 
 -- what has come to `now` numbers, and had `before` of them, took the room of those that came
 abbrev pub Took : Room → Room → ℕ → ℕ → Type 0

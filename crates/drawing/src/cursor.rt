@@ -8,7 +8,8 @@ use crate::errors::{Expected, Place, Sign};
 use crate::mistakes::Mistake;
 use crate::words::{Cut, Word, cut_word};
 
-// The next word with its place, and what of the line is past it. No iterator: the word is looked at more than once before it is taken.
+// The next word with its place, and what of the line is past it. No `Peekable` of words: its `peek` changes it, also where a mistake is
+// only told, and a mistake at the end of the line wants a place too, where there is no word.
 #[derive(Drop)]
 pub struct Cursor<'a> {
     word: Word<'a>,

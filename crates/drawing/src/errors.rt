@@ -2,6 +2,7 @@
 ghost use Rattle.std.specs.Prelude.{◌≡◌, ◌+◌, ◌≤◌, length, Some, take};
 ghost use Rattle.drawing.specs.Words.{text_of};
 ghost use Rattle.drawing.specs.Places.{newline_count, last_line_len as characters_since, place_text};
+ghost use Rattle.drawing.specs.declared.errors.Refusal.TheVariants.{Wrong as RefusedFor};
 
 use clockworks::parts::Relation;
 use clockworks::write::Unfit;
@@ -133,6 +134,19 @@ pub enum Refusal {
     Memory,
     #[error("{0}")]
     Wrong(Wrong<Found, Expected>),
+}
+
+impl Refusal {
+    // Something else was expected at the place than what was found.
+    pub(crate) fn wrong(place: Place, found: Found, expected: Expected) -> Refusal
+        ensures { result ≡ RefusedFor (record { place = place; found = found; expected = expected }) }
+    {
+        Refusal::Wrong(Wrong {
+            place,
+            found,
+            expected,
+        })
+    }
 }
 
 impl fmt::Display for Sign {

@@ -2,7 +2,7 @@
 ghost use Rattle.drawing.specs.Explained.{Explained};
 
 use crate::cursor::Cursor;
-use crate::errors::{Expected, Found, Place, Refusal, Wrong};
+use crate::errors::{Expected, Found, Place, Refusal};
 use crate::mistakes::Mistake;
 use crate::words::Word;
 use clockworks::write::Unfit;
@@ -40,16 +40,8 @@ pub fn explain(heap: Global, text: &str, mistake: Mistake) -> Refusal
         Mistake::Memory => Refusal::Memory,
         Mistake::Word(place, expected) => found_at(heap, text, place).map_or(
             Refusal::Memory,
-            |found| Refusal::Wrong(Wrong {
-                place,
-                found,
-                expected,
-            }),
+            |found| Refusal::wrong(place, found, expected),
         ),
-        Mistake::Row(place) => Refusal::Wrong(Wrong {
-            place,
-            found: Found::Unfit(Unfit::Words),
-            expected: Expected::Row,
-        }),
+        Mistake::Row(place) => Refusal::wrong(place, Found::Unfit(Unfit::Words), Expected::Row),
     }
 }

@@ -4,7 +4,7 @@
 ghost use Rattle.std.specs.Prelude.{IfOk, vec_len, string_bytes};
 ghost use Rattle.drawing.specs.Drawn.{Draws, DrawnAs};
 
-use crate::errors::{Expected, Found, Place, Refusal, Wrong};
+use crate::errors::{Expected, Found, Place, Refusal};
 use crate::mistakes::Mistake;
 use crate::names::Names;
 use clockworks::parts::Clockwork;
@@ -33,11 +33,10 @@ pub struct Drawing {
 
 // The text, without the mark that some editors put in front of it.
 fn as_text(bytes: &[u8]) -> Result<&str, Refusal> {
-    let text = std::str::from_utf8(bytes).map_err(|error| Refusal::Wrong(Wrong {
-        place: Place::after(bytes, error.valid_up_to()),
-        found: Found::Bytes,
-        expected: Expected::Utf8,
-    }))?;
+    let text = std::str::from_utf8(bytes).map_err(|error| {
+        let place = Place::after(bytes, error.valid_up_to());
+        Refusal::wrong(place, Found::Bytes, Expected::Utf8)
+    })?;
     Ok(text.strip_prefix('\u{feff}').unwrap_or(text))
 }
 
@@ -56,11 +55,7 @@ fn read_parts(heap: Global, text: &str) -> Result<(Names, Clockwork), Mistake> {
 fn refuse_row(place: Place, unfit: Unfit) -> Refusal {
     match unfit {
         Unfit::Memory(_) => Refusal::Memory,
-        unfit => Refusal::Wrong(Wrong {
-            place,
-            found: Found::Unfit(unfit),
-            expected: Expected::Row,
-        }),
+        unfit => Refusal::wrong(place, Found::Unfit(unfit), Expected::Row),
     }
 }
 
@@ -80,11 +75,7 @@ fn finish(heap: Global, end: Place, names: Names, clockwork: &Clockwork) -> Resu
         || clocks.len() != clockwork.clocks as usize
         || positions.len() != clockwork.positions.len()
     {
-        return Err(Refusal::Wrong(Wrong {
-            place: end,
-            found: Found::TextEnd,
-            expected,
-        }));
+        return Err(Refusal::wrong(end, Found::TextEnd, expected));
     }
     let row = write_row(heap, clockwork).map_err(|unfit| refuse_row(end, unfit))?;
     Ok(Drawing {

@@ -22,7 +22,8 @@ impl Room {
         }
     }
 
-    // Room for any parts: a text is only gone through for mistakes.
+    // Room for any parts: a text is only gone through for mistakes. The largest number, and no case without a limit: no text has so many
+    // parts, and what a part takes stays one sum.
     pub fn boundless() -> Room
         ensures { result.left + 1 ≡ 2 ^ 64 }
     {
@@ -33,10 +34,7 @@ impl Room {
     pub fn take(&mut self, numbers: usize, place: Place) -> Result<(), Mistake>
         ensures { MatchResult result (λ _. Took self.old self.new 0 numbers) (λ m. (self.old.left < numbers) × (self.new.left ≡ self.old.left) × (m ≡ Row place)) }
     {
-        if numbers > self.left {
-            return Err(Mistake::Row(place));
-        }
-        self.left -= numbers;
+        self.left = self.left.checked_sub(numbers).ok_or(Mistake::Row(place))?;
         Ok(())
     }
 }

@@ -2,7 +2,7 @@
 ghost use Rattle.std.specs.Prelude.{◌≡◌, ℕ, List, ◌++◌, map, IfOk, string_bytes, codes, OnOk};
 ghost use Rattle.std.specs.List.{flat_map};
 ghost use Rattle.rows.specs.Parts.{constraint_value};
-ghost use Rattle.clockworks.specs.Meaning.{constraints, invariant_of, edge, automaton, Adds};
+ghost use Rattle.clockworks.specs.Meaning.{constraints, invariant_of, edge, automaton, AddsText};
 ghost use Rattle.drawing.specs.Sheets.{test_text, tests_text, clock_text, clocks_line, resets_text, position_lines, step_line, sheet_of};
 
 use clockworks::parts::{Clockwork, Position, Step, Test};
@@ -15,11 +15,11 @@ trait Part {
     ghost text: { Self → List ℕ };
 
     fn write(&self, sheet: &mut String) -> Result<(), AllocError>
-        ensures { OnOk result (Adds (string_bytes sheet.old) (text self.now) (string_bytes sheet.new)) };
+        ensures { OnOk result (AddsText sheet.old (text self.now) sheet.new) };
 }
 
 fn write_all<P: Part>(sheet: &mut String, parts: &[P]) -> Result<(), AllocError>
-    ensures { OnOk result (Adds (string_bytes sheet.old) (flat_map P.text parts.now) (string_bytes sheet.new)) }
+    ensures { OnOk result (AddsText sheet.old (flat_map P.text parts.now) sheet.new) }
 {
     for part in parts {
         part.write(sheet)?;
@@ -29,7 +29,7 @@ fn write_all<P: Part>(sheet: &mut String, parts: &[P]) -> Result<(), AllocError>
 
 // A test after a word.
 fn write_test(sheet: &mut String, word: &str, test: Test) -> Result<(), AllocError>
-    ensures { OnOk result (Adds (string_bytes sheet.old) (test_text word.now (constraint_value test)) (string_bytes sheet.new)) }
+    ensures { OnOk result (AddsText sheet.old (test_text word.now (constraint_value test)) sheet.new) }
 {
     let clock = test.clock.0;
     let relation = test.relation;
@@ -47,7 +47,7 @@ impl Part for Test {
 
 // Tests with commas between them, after a word.
 fn write_tests(sheet: &mut String, word: &str, tests: &[Test]) -> Result<(), AllocError>
-    ensures { OnOk result (Adds (string_bytes sheet.old) (tests_text word.now (constraints tests.now)) (string_bytes sheet.new)) }
+    ensures { OnOk result (AddsText sheet.old (tests_text word.now (constraints tests.now)) sheet.new) }
 {
     let Some((first, rest)) = tests.split_first() else {
         return Ok(());
@@ -66,7 +66,7 @@ impl Part for u32 {
 }
 
 fn write_resets(sheet: &mut String, resets: &[u32]) -> Result<(), AllocError>
-    ensures { OnOk result (Adds (string_bytes sheet.old) (resets_text resets.now) (string_bytes sheet.new)) }
+    ensures { OnOk result (AddsText sheet.old (resets_text resets.now) sheet.new) }
 {
     if resets.is_empty() {
         return Ok(());
@@ -77,18 +77,18 @@ fn write_resets(sheet: &mut String, resets: &[u32]) -> Result<(), AllocError>
 }
 
 fn write_clocks(sheet: &mut String, clocks: u32) -> Result<(), AllocError>
-    ensures { OnOk result (Adds (string_bytes sheet.old) (clocks_line clocks) (string_bytes sheet.new)) }
+    ensures { OnOk result (AddsText sheet.old (clocks_line clocks) sheet.new) }
 {
     write!(sheet, "clocks")?;
     for clock in 0..clocks {
-        write!(sheet, " x{clock}")?;
+        clock.write(sheet)?;
     }
     write!(sheet, "\n")?;
     Ok(())
 }
 
 fn write_positions(sheet: &mut String, positions: &[Position]) -> Result<(), AllocError>
-    ensures { OnOk result (Adds (string_bytes sheet.old) (position_lines 0 (map invariant_of positions.now)) (string_bytes sheet.new)) }
+    ensures { OnOk result (AddsText sheet.old (position_lines 0 (map invariant_of positions.now)) sheet.new) }
 {
     for (number, position) in positions.iter().enumerate() {
         write!(sheet, "position p{number}")?;

@@ -72,10 +72,7 @@ fn cut_text(text: &str) -> Option<(&str, &str)>
     ensures { IfSome result (λ x. (text.now ≡ x.0.now ++ x.1.now) × (0 < length x.0.now)) }
 {
     let (name, rest) = text.split_at_checked(text_len(text))?;
-    if name.is_empty() {
-        return None;
-    }
-    Some((name, rest))
+    (!name.is_empty()).then_some((name, rest))
 }
 
 // The first word of a text that begins with no blank.

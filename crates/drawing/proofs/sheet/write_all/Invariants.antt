@@ -1,7 +1,7 @@
-use Rattle.std.proofs.Common.{true, string_bytes}
+use Rattle.std.proofs.Common.{take}
 use Rattle.std.specs.List.{flat_map}
-use Rattle.clockworks.proofs.Writing.{Sofar}
+use Rattle.clockworks.specs.Meaning.{AddsText}
 use Rattle.drawing.proofs.sheet.write_all.Given as goal
 
 abbrev pub invariant-loop-part : goal.invariant-loop-part
-invariant-loop-part g l = Sofar (flat_map g.P.Part.text) (λ _. true) (string_bytes l.initial.sheet) l.parts l.part-index (string_bytes l.sheet)
+invariant-loop-part g l = AddsText l.initial.sheet (flat_map g.P.Part.text (take l.part-index l.parts)) l.sheet
