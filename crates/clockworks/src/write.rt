@@ -39,6 +39,7 @@ pub enum Unfit {
     Other,
 }
 
+// By hand: a derive has no clause to say that it is `Relation`.
 impl From<UnknownRelation> for Unfit {
     ghost use Rattle.clockworks.specs.declared.write.Unfit.TheVariants.{Relation as UnfitRelation};
 

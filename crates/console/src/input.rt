@@ -17,7 +17,7 @@ pub enum Source<'a> {
 }
 
 impl<'a> Source<'a> {
-    // Standard input where no file is named, or `-` is.
+    // Standard input where no file is named, or `-` is. No From: that is a rule of calls, and `Source::from` would not say of what.
     pub fn of(file: Option<&'a str>) -> Source<'a>
         ensures { SourceIs (option_map (λ name. name.now) file.entry) result }
     {

@@ -54,7 +54,7 @@ pub struct Report<'a> {
     pub problem: &'a Problem,
 }
 
-// By hand: a derive has no clause to say that it is `Memory`.
+// By hand, and the next two: a derive has no clause to say which problem it gives.
 impl From<AllocError> for Problem {
     ghost from_gives = { λ _ problem. problem ≡ Memory };
 

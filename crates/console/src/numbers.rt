@@ -26,7 +26,7 @@ pub(crate) struct Word<'a> {
     pub text: &'a [u8],
 }
 
-// The words of a text from a place on.
+// The words of a text from a place on. Not what is left of it: each word tells where it begins.
 #[derive(Clone, Copy)]
 struct Words<'a> {
     bytes: &'a [u8],

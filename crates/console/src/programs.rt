@@ -38,7 +38,8 @@ pub fn tell<D: fmt::Display + Drop>(rt: &HostRuntime, wrong: D) -> io::Result<Ex
     Ok(ExitCode::FAILURE)
 }
 
-// The options of a call, or the status where the program has no work to do.
+// The options of a call, or the status where the program has no work to do. Each `main` reads the words and parses them itself: with
+// a closure that parses them here the borrow checker does not cover this call on its answer ("another lifetime for `'static`").
 pub fn begin<T: Drop>(
     rt: &HostRuntime,
     about: About,

@@ -13,6 +13,7 @@ pub struct Written(pub Asked);
 #[derive(Clone, Copy)]
 pub struct NoAnswer;
 
+// By hand: there is no field that `#[from]` could fill.
 impl From<ParseIntError> for NoAnswer {
     fn from(_e: ParseIntError) -> NoAnswer {
         NoAnswer

@@ -24,7 +24,7 @@ pub struct Counts {
 }
 
 impl Tally {
-    // One more position.
+    // One more position. Each arm adds: tried with a match that gives the count, as a `&mut`, and one sum behind it, and `returns` stayed open.
     fn add(&mut self, finding: Finding)
         ensures { self.new ≡ tallied self.old finding }
     {

@@ -23,6 +23,7 @@ pub struct Complaint<'a> {
     pub trouble: &'a Trouble,
 }
 
+// By hand: thiserror's derive asks for a text of each variant, and a trouble is told with its source, by `Complaint`.
 impl From<Problem> for Trouble {
     fn from(problem: Problem) -> Trouble {
         Trouble::Problem(problem)
