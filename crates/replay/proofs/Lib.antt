@@ -6,6 +6,7 @@ pub mod Resets
 pub mod Compared
 pub mod InRange
 pub mod Telling
+pub mod Judged
 pub mod Moving
 pub mod Paths
 pub mod Divisors

@@ -11,7 +11,8 @@ pub enum Move {
 }
 
 // A location, the value of each clock and the time since the start, in d-ths. Only the values of the automaton's clocks count:
-// an array of the most that there may be, and no count beside it, since a moment is told of an automaton that is given with it.
+// an array of the most that there may be, since a rule of the project asks for fixed memory, with no heap; their count is in the automaton,
+// which is given with every moment.
 #[derive(Clone, Copy, Debug, PartialEq, Eq)]
 pub struct Moment {
     pub location: Location,

@@ -25,10 +25,9 @@ pub fn begin(automaton: &Automaton) -> Result<Moment, Fault>
         time: 0,
     };
     // 0 is 0 over every denominator
-    if !allowed(automaton, start.location, 1, &start.clocks) {
-        return Err(Fault::NotAllowedAtStart);
-    }
-    Ok(start)
+    allowed(automaton, start.location, 1, &start.clocks)
+        .then_some(start)
+        .ok_or(Fault::NotAllowedAtStart)
 }
 
 // An automaton, and the denominator of the times of its runs.
@@ -69,10 +68,9 @@ impl<'a> Player<'a> {
         ensures { Advances (automaton_value self.now.automaton) self.now.denominator moment.now (Wait delay) result }
     {
         let later = waited(moment, delay).ok_or(Fault::NoRoom)?;
-        if !self.is_allowed(&later) {
-            return Err(Fault::InvariantFails);
-        }
-        Ok(later)
+        self.is_allowed(&later)
+            .then_some(later)
+            .ok_or(Fault::InvariantFails)
     }
 
     // One edge.
@@ -91,10 +89,9 @@ impl<'a> Player<'a> {
             clocks: with_resets(moment.clocks, edge.resets),
             time: moment.time,
         };
-        if !self.is_allowed(&after) {
-            return Err(Fault::InvariantFails);
-        }
-        Ok(after)
+        self.is_allowed(&after)
+            .then_some(after)
+            .ok_or(Fault::InvariantFails)
     }
 
     fn advance(&self, moment: &Moment, by: Move) -> Result<Moment, Fault>
@@ -120,7 +117,8 @@ pub fn advance(
 }
 
 // Goes through all moves, from the start. What is accepted is a run to that location at that time; what is refused is none,
-// unless a number has no room or the denominator is 0.
+// unless a number has no room or the denominator is 0. Denominator and moves are no struct: `sixtieths` has one denominator for all its runs,
+// and `realise` finds the denominator first, so each would make the struct for this call alone.
 pub fn replay(automaton: &Automaton, denominator: u64, moves: &[Move]) -> Result<Moment, Fault>
     ensures { Replays (automaton_value automaton.now) denominator moves.now result }
 {

@@ -12,8 +12,9 @@ use Rattle.replay.specs.declared.moments.Fault.TheVariants.{GuardFails, Invarian
 use Rattle.replay.specs.Meaning.{clock_of}
 use Rattle.replay.specs.Checks.{HoldsParts}
 use Rattle.replay.specs.Changes.{Taken, EdgeNumber}
-use Rattle.replay.specs.Outcomes.{Advanced, StepFails}
+use Rattle.replay.specs.Outcomes.{Advanced, Advances, StepFails}
 use Rattle.replay.proofs.InRange.{InRange, reads_in_range}
+use Rattle.replay.proofs.Judged.{by_test}
 use Rattle.replay.proofs.Moving.{guard_fails, target_fails, step_advances}
 use Rattle.replay.proofs.runs.Player.step.Goals as goal
 
@@ -71,19 +72,18 @@ returns-then-not-holds c =
     c.args.number c.in_ok-edge.edge c.args.moment.now found
     (rw (constraints_value-is c.in_ok-edge.edge.guard.words.now found.0.guard found.2.guard) at c.if-not-holds.ensures)
 
-pub returns-then-not-is_allowed : goal.returns-then-not-is_allowed
-returns-then-not-is_allowed c =
-    let player = c.args.self.now in
-    let found = rw c.in_ok-edge.ensures.ok_part at c.numbered_edge.ensures in
-    target-fault (automaton_value player.automaton) (reads_in_range (views player.automaton).reads) player.denominator player.positive
-    c.args.number c.in_ok-edge.edge c.args.moment.now found c.with_resets.result c.with_resets.ensures c.if-not-is_allowed.ensures
-
 pub returns : goal.returns
 returns c =
     let player = c.args.self.now in
+    let a = automaton_value player.automaton in
+    let range = reads_in_range (views player.automaton).reads in
+    let d = player.denominator in
+    let i = c.args.number in
+    let v = c.in_ok-edge.edge in
+    let m = c.args.moment.now in
     let found = rw c.in_ok-edge.ensures.ok_part at c.numbered_edge.ensures in
-    edge-taken (automaton_value player.automaton) (reads_in_range (views player.automaton).reads) player.denominator player.positive
-    c.args.number c.in_ok-edge.edge c.args.moment.now found c.with_resets.result c.with_resets.ensures
-    (search rules)
-    (rw (constraints_value-is c.in_ok-edge.edge.guard.words.now found.0.guard found.2.guard) at c.if-not-holds.ensures)
-    c.if-not-is_allowed.ensures
+    let clocks = c.with_resets.result in
+    by_test (Advances a d m (Step i)) _ _ _ _ _ c.then_some.ensures c.ok_or-2.ensures.value c.is_allowed.ensures
+    (edge-taken a range d player.positive i v m found clocks c.with_resets.ensures (search rules)
+    (rw (constraints_value-is v.guard.words.now found.0.guard found.2.guard) at c.if-not-holds.ensures))
+    (target-fault a range d player.positive i v m found clocks c.with_resets.ensures)
