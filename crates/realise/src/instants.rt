@@ -3,8 +3,7 @@ use crate::orders::{Element, Order};
 use crate::runs::Failure;
 use crate::ways::{Leg, Passage};
 use cells::frames::Frame;
-use cells::values::Region;
-use rows::limits::CLOCKS;
+use cells::values::{Cell, Region};
 use std::alloc::Global;
 
 // A time: a whole number and a fraction.
@@ -34,11 +33,11 @@ const START: Instant = Instant {
 };
 
 // When a clock of the cell, which was set back at that instant, has just its whole value; none where something is left over.
-fn instant_of(cell_height: u32, top: u32, reset: Instant) -> Option<Instant> {
-    if cell_height > top.saturating_mul(2) || cell_height % 2 != 0 {
+fn instant_of(cell: Cell, frame: Frame, reset: Instant) -> Option<Instant> {
+    if !cell.is_inside(frame) || cell.height % 2 != 0 {
         return None;
     }
-    let whole = reset.whole.checked_add((cell_height / 2) as u64)?;
+    let whole = reset.whole.checked_add((cell.height / 2) as u64)?;
     Some(Instant {
         whole,
         fraction: reset.fraction,
@@ -51,8 +50,8 @@ struct Planner {
     frame: Frame,
     plan: Plan,
     now: Instant,
-    // when each clock was last set back; an array of the most that there may be, as a region has its cells, with the count in `frame`
-    resets: [Instant; CLOCKS],
+    // when each clock was last set back
+    resets: Vec<Instant>,
 }
 
 impl Planner {
@@ -64,27 +63,24 @@ impl Planner {
                 order: Order::new(heap)?,
             },
             now: START,
-            resets: [START; CLOCKS],
+            resets: vec![in heap; START; frame.clocks]?,
         })
     }
 
     // The one instant at which the region is shown; none where no clock has a whole value, so that it is shown for a while.
     fn only_instant(&self, region: &Region) -> Option<Instant> {
-        let top = self.frame.top;
-        region
-            .cells
+        let frame = self.frame;
+        self.resets
             .iter()
-            .zip(self.resets.iter())
-            .take(self.frame.clocks)
-            .find_map(|(cell, reset)| instant_of(cell.height, top, *reset))
+            .zip(region.cells.iter())
+            .find_map(|(reset, cell)| instant_of(*cell, frame, *reset))
     }
 
     // An edge. The clocks that are 0 after it count as set back then: one that it did not set back was 0 before.
     fn take(&mut self, edge: u32, region: &Region) -> Result<(), Failure> {
         self.plan.events.push(Event::Edge(edge))?;
         let now = self.now;
-        let cells = region.cells.iter().take(self.frame.clocks);
-        for (reset, cell) in self.resets.iter_mut().zip(cells) {
+        for (reset, cell) in self.resets.iter_mut().zip(region.cells.iter()) {
             if cell.height == 0 {
                 *reset = now;
             }

@@ -96,7 +96,8 @@ fn is_small(denominator: u64, waits: usize, arrival: Arrival) -> bool
     denominator as u128 <= (waits as u128 + 1) * part_of(arrival) as u128
 }
 
-// The moves along a way, and the denominator of their times.
+// The denominator of the times along a way, and its moves. A pair: a struct of both would be taken apart by its one caller, since `replay`
+// and `Run` have the two apart.
 fn moves_along(
     heap: Global,
     automaton: &Automaton,

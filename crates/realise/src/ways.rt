@@ -1,7 +1,8 @@
 // What a way from region to region is told in.
 use cells::values::Region;
 
-// How the next region is come to: time goes on, or the edge of a number is taken, from 0 in the order of the row.
+// How the next region is come to: time goes on, or the edge of a number is taken, from 0 in the order of the row. No Option of a
+// number, which would be no plainer: its None would not say that time goes on.
 #[derive(Clone, Copy, PartialEq, Eq)]
 pub enum Passage {
     Delay,
