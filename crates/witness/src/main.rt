@@ -7,8 +7,9 @@ use accounts::names::Names;
 use console::budget::kinds_that_fit;
 use console::messages::Problem;
 use console::names::Name;
+use console::positions::Positions;
 use console::programs::{NoWords, begin, tell};
-use console::{positions, texts};
+use console::texts;
 use drawing::Drawing;
 use rows::edges::Location;
 use std::alloc::{AllocError, Global};
@@ -25,19 +26,17 @@ mod troubles;
 fn find_position(
     heap: Global,
     options: &Options,
-    names: &[String],
-    count: u32,
+    positions: Positions<'_>,
 ) -> Result<Location, Trouble> {
-    let count = count as usize;
     let Some(word) = &options.position else {
-        let unknown = positions::refuse(heap, names, count, "")?;
+        let unknown = positions.refuse(heap, "")?;
         return Err(Trouble::NoPosition(unknown.known));
     };
     let word = word.as_str();
     // A match: `refuse` can fail itself, and `ok_or_else` takes what cannot.
-    match positions::find(names, count, word) {
+    match positions.find(word) {
         Some(position) => Ok(Location(u32::try_from(position).unwrap_or(u32::MAX))),
-        None => Err(Trouble::from(Problem::Position(positions::refuse(heap, names, count, word)?))),
+        None => Err(Trouble::from(Problem::Position(positions.refuse(heap, word)?))),
     }
 }
 
@@ -63,7 +62,14 @@ fn names(
 fn write_output(heap: Global, options: &Options, drawing: &Drawing) -> Result<String, Trouble> {
     let automaton = texts::view(drawing.row.as_slice())?;
     let known = drawing.positions.as_slice();
-    let location = find_position(heap, options, known, automaton.locations())?;
+    let location = find_position(
+        heap,
+        options,
+        Positions {
+            names: known,
+            count: automaton.locations() as usize,
+        },
+    )?;
     if options.part == 0 {
         return Err(Trouble::NoPart);
     }

@@ -1,5 +1,5 @@
 use Rattle.console.proofs.Copies.{near_copy}
-use Rattle.console.proofs.positions.refuse.Goals as goal
+use Rattle.console.proofs.positions.Positions.refuse.Goals as goal
 
 pub returns : goal.returns
 returns c =
