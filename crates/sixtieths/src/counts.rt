@@ -23,16 +23,24 @@ pub struct Counts {
     pub differences: u32,
 }
 
+// One more, as far as there is place.
+fn add_one(count: &mut u32)
+    ensures { count.new ≡ one_added count.old }
+{
+    *count = count.saturating_add(1);
+}
+
 impl Tally {
     // One more position. Each arm adds: tried with a match that gives the count, as a `&mut`, and one sum behind it, and `returns` stayed open.
     fn add(&mut self, finding: Finding)
         ensures { self.new ≡ tallied self.old finding }
     {
+        // A call in each arm: tried was a match that picks the field, and `returns` stayed open where the arms join.
         match finding {
-            Finding::Exact => self.exact = self.exact.saturating_add(1),
-            Finding::Later => self.later = self.later.saturating_add(1),
-            Finding::Missing => self.missing = self.missing.saturating_add(1),
-            Finding::Contradiction => self.wrong = self.wrong.saturating_add(1),
+            Finding::Exact => add_one(&mut self.exact),
+            Finding::Later => add_one(&mut self.later),
+            Finding::Missing => add_one(&mut self.missing),
+            Finding::Contradiction => add_one(&mut self.wrong),
         }
     }
 
@@ -66,13 +74,13 @@ impl Counts {
         ensures followed { self.new.followed ≡ one_added self.old.followed }
         ensures rest { (self.new.tallies ≡ self.old.tallies) × (self.new.differences ≡ self.old.differences) }
     {
-        self.followed = self.followed.saturating_add(1);
+        add_one(&mut self.followed);
     }
 
     pub fn note_difference(&mut self)
         ensures differences { self.new.differences ≡ one_added self.old.differences }
         ensures rest { (self.new.tallies ≡ self.old.tallies) × (self.new.followed ≡ self.old.followed) }
     {
-        self.differences = self.differences.saturating_add(1);
+        add_one(&mut self.differences);
     }
 }

@@ -2,7 +2,7 @@
 use crate::counts::Counts;
 use crate::grid_search::MOST_STATES;
 use crate::opinions::Opinion;
-use crate::problems::{fail, opinions_on};
+use crate::problems::fail;
 use crate::report::Reporter;
 use drawing::Drawing;
 use std::{fs, io};
@@ -47,12 +47,7 @@ fn print_all(
 
 fn compare_drawing(reporter: &mut Reporter, file: &str) -> io::Result<()> {
     let drawing = read_drawing(reporter.rt, file)?;
-    let Some(all) = opinions_on(
-        reporter.rt,
-        drawing.row.as_slice(),
-        reporter.work.as_mut_slice(),
-    )?
-    else {
+    let Some(all) = reporter.opinions_on(drawing.row.as_slice())? else {
         return println!(reporter.rt;
             "{file}: skipped, since it has more than {MOST_STATES} states in sixtieths"
         );

@@ -9,6 +9,7 @@ use crate::trails::{Astray, follow, moves_to};
 use crate::visits::{Arrival, Fault, Visits};
 use crate::ways::find_ways;
 use clocks::answers::{Asked, look_up};
+use rows::edges::Location;
 use rows::limits::MOST_WORDS;
 use rows::views::Automaton;
 use search::explores::{WORDS, WORDS_FOR_A_KIND, WORDS_FOR_A_WORD, explore};
@@ -71,7 +72,7 @@ fn first_at(
     heap: Global,
     automaton: &Automaton,
     visits: &Visits,
-    location: u32,
+    location: Location,
 ) -> Result<Option<First>, Fault> {
     let Some(Arrival { state, time }) = visits.first(location) else {
         return Ok(None);
@@ -93,7 +94,7 @@ pub fn opinions(heap: Global, space: Space<'_>, work: &mut [u32]) -> Result<Vec<
     let mut all = Vec::new(heap);
     for (location, has_way) in (0..automaton.locations()).zip(ways) {
         let asked = look_up(explored, location as usize);
-        let first = first_at(heap, automaton, &visits, location)?;
+        let first = first_at(heap, automaton, &visits, Location(location))?;
         all.push(Opinion::new(asked, has_way, first))?;
     }
     Ok(all)

@@ -1,17 +1,23 @@
 // What is printed: opinions on positions, differences, and counts.
-ghost use Rattle.std.specs.Prelude.{◌≡◌, IfOk, is_some, cond, slice_set, slice_index_or, vec_len};
+ghost use Rattle.std.specs.Prelude.{◌≡◌, ◌<◌, ◌≤◌, IfOk, IfSome, MatchOption, is_some, cond, slice_set, slice_index_or, vec_len};
+ghost use Rattle.automata.specs.Automata as automata;
+ghost use Rattle.automata.specs.Rows.{Reads};
+ghost use Rattle.rows.specs.Viewed.{value_of};
 ghost use Rattle.search.specs.Answering.{needed};
 ghost use Rattle.sixtieths.specs.Counting.{one_added, tallied, place_of};
-ghost use Rattle.sixtieths.specs.Opinions.{differing};
+ghost use Rattle.sixtieths.specs.Opinions.{AllOpinions, differing};
+ghost use Rattle.sixtieths.specs.Spaces.{states_of};
 ghost use Rattle.sixtieths.specs.declared.counts.Tally.{Tally};
 
 use crate::comparison::Kind;
 use crate::counts::{Counts, Tally};
-use crate::opinions::{Opinion, WORK};
-use crate::trails::Astray;
+use crate::grid_search::Space;
+use crate::opinions::{Opinion, WORK, opinions};
+use crate::problems::fail;
 use rows::numbers::Numbers;
+use rows::reader;
 use std::alloc::AllocError;
-use std::io;
+use std::{fmt, io};
 
 // Where it is printed, the words that are lent for the answers, and what was counted.
 #[derive(Drop)]
@@ -21,12 +27,16 @@ pub struct Reporter<'a> {
     pub counts: Counts,
 }
 
-fn what_differs(opinion: &Opinion) -> &'static str {
-    match opinion.first.map(|first| first.followed) {
-        Some(Err(Astray::Refused(_))) => "and the run found is refused",
-        Some(Err(Astray::EndsElsewhere(_))) =>
-            "and the run found ends elsewhere or at another time",
-        _ => "which contradict each other",
+// What differs about an opinion.
+#[derive(Clone, Copy)]
+struct Difference<'a>(&'a Opinion);
+
+impl<'a> fmt::Display for Difference<'a> {
+    fn fmt<W: fmt::Write>(&self, f: &mut fmt::Formatter<W>) -> fmt::Result {
+        match self.0.first.map(|first| first.followed) {
+            Some(Err(astray)) => write!(f, "and {astray}"),
+            _ => f.write_str("which contradict each other"),
+        }
     }
 }
 
@@ -43,15 +53,41 @@ impl<'a> Reporter<'a> {
         })
     }
 
+    // The opinions on the automaton of a row; none where it has too many states, and an error where the row is none.
+    pub fn opinions_on(&mut self, row: &[u32]) -> io::Result<Option<Vec<Opinion>>>
+        ensures row { IfOk result (λ _. (a : automata.Automaton) × Reads row.now a) }
+        ensures held { IfOk result (λ all. MatchOption all (4000000 < states_of (value_of row.now)) (λ _. states_of (value_of row.now) ≤ 4000000)) }
+        ensures judged { IfOk result (λ all. IfSome all (λ opinions. AllOpinions opinions.items)) }
+        ensures counts { self.new.counts ≡ self.old.counts }
+    {
+        let rt = self.rt;
+        let automaton = reader::read(row).try_map_err(|refusal| {
+            let word = refusal.word;
+            let numbers = Numbers(row);
+            fail(
+                rt,
+                io::ErrorKind::InvalidData,
+                format_args!("sixtieths: a row that is refused at its word {word}: {numbers}"),
+            )
+        })?;
+        let Some(space) = Space::new(automaton) else {
+            return Ok(None);
+        };
+        match opinions(rt.alloc(), space, self.work.as_mut_slice()) {
+            Ok(all) => Ok(Some(all)),
+            Err(fault) => fail(rt, io::ErrorKind::Other, format_args!("sixtieths: {fault}")),
+        }
+    }
+
     // One line with both answers for a position.
     pub fn print_opinion(&self, file: &str, position: &str, opinion: &Opinion) -> io::Result<()> {
         println!(self.rt; "{file}, {position}: {opinion}")
     }
 
     fn print_difference(&self, row: &[u32], position: usize, opinion: &Opinion) -> io::Result<()> {
-        let differs = what_differs(opinion);
+        let difference = Difference(opinion);
         let row = Numbers(row);
-        println!(self.rt; "difference at position {position}: {opinion}, {differs}; row {row}")
+        println!(self.rt; "difference at position {position}: {opinion}, {difference}; row {row}")
     }
 
     // Counts an opinion, and prints it where it differs from the answer.

@@ -3,7 +3,6 @@ use crate::counts::Counts;
 use crate::generator::Generator;
 use crate::grid_search::MOST_STATES;
 use crate::inventions::invent;
-use crate::problems::opinions_on;
 use crate::report::Reporter;
 use std::io;
 
@@ -12,7 +11,7 @@ pub const SEED: u64 = 60;
 pub const AUTOMATA: u32 = 300;
 
 fn compare_row(reporter: &mut Reporter, row: &[u32]) -> io::Result<()> {
-    let Some(all) = opinions_on(reporter.rt, row, reporter.work.as_mut_slice())? else {
+    let Some(all) = reporter.opinions_on(row)? else {
         return println!(reporter.rt;
             "skipped, since it has more than {MOST_STATES} states in sixtieths"
         );
