@@ -9,11 +9,11 @@ use std::str::FromStr;
 #[derive(Clone, Copy)]
 pub struct Written(pub Asked);
 
-// A text that says no answer that a clockwork can have.
-#[derive(Clone, Copy)]
+// A text that says no answer that a clockwork can have. No Display: it is told as a flaw of its line.
+#[derive(Debug, Clone, Copy)]
 pub struct NoAnswer;
 
-// By hand: there is no field that `#[from]` could fill.
+// By hand: with `#[from]` it would keep the error, of which nothing is told.
 impl From<ParseIntError> for NoAnswer {
     fn from(_e: ParseIntError) -> NoAnswer {
         NoAnswer

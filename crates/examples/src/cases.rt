@@ -37,8 +37,8 @@ pub enum Flaw {
     NoPart,
 }
 
-// Why the cases cannot be read. Lines count from 1.
-#[derive(Clone, Copy)]
+// Why the cases cannot be read. Lines count from 1. No Display: the line is told only where the flaw is one of the text.
+#[derive(Debug, Clone, Copy)]
 pub struct Mistake {
     pub line: usize,
     pub flaw: Flaw,
@@ -83,18 +83,17 @@ impl Reader {
         if text.starts_with('#') {
             return Ok(());
         }
-        if let Some(words) = text.strip_prefix("rows: ") {
-            self.case.row = parse_row(self.heap, words)?;
-            return Ok(());
+        match text.split_once(": ") {
+            Some(("rows", words)) => self.case.row = parse_row(self.heap, words)?,
+            Some(("kinds", word)) => self.case.kinds = word.parse()?,
+            Some(("answers", parts)) => {
+                self.case.answers = parse_answers(self.heap, parts)?;
+                let whole = mem::replace(&mut self.case, Case::new(self.heap));
+                self.cases.push(whole)?;
+            }
+            _ => return Err(Flaw::NoPart),
         }
-        if let Some(word) = text.strip_prefix("kinds: ") {
-            self.case.kinds = word.parse()?;
-            return Ok(());
-        }
-        let parts = text.strip_prefix("answers: ").ok_or(Flaw::NoPart)?;
-        self.case.answers = parse_answers(self.heap, parts)?;
-        let whole = mem::replace(&mut self.case, Case::new(self.heap));
-        Ok(self.cases.push(whole)?)
+        Ok(())
     }
 }
 
@@ -141,7 +140,7 @@ fn check_answers(tester: &mut Tester, case: &Case) -> Result<(), AllocError> {
     expect_each(report, "looked up", case, |position| {
         look_up(explored, position)
     })?;
-    for (position, _) in case.answers.iter().enumerate() {
+    for position in 0..case.answers.len() {
         let got = ask(row, position, kinds.saturating_sub(1), work.as_mut_slice());
         report.expect("one kind less", position, Asked::Many, got)?;
     }

@@ -33,14 +33,11 @@ impl<'a> Expectation<'a> {
         Some(Expectation { position, answer })
     }
 
-    // Not by `is_none_or`, here and below: tried, and open stayed what it requires of the closure, that the bytes of its text are UTF-8.
     fn is_about(&self, position: &str) -> bool {
-        let Some(name) = self.position else {
-            return true;
-        };
-        name == position
+        self.position.is_none() || self.position == Some(position)
     }
 
+    // Not by `is_none_or`: tried, and open stayed what it requires of the closure, that the bytes of its text are UTF-8.
     fn is_about_one_of(&self, positions: &[String]) -> bool {
         let Some(name) = self.position else {
             return true;

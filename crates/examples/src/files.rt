@@ -4,11 +4,9 @@ use std::{fs, io};
 // The names of the files in a folder, in order.
 pub fn list(rt: &HostRuntime, folder: &str) -> io::Result<Vec<String>> {
     let heap = rt.alloc();
-    let mut names = Vec::new(heap);
-    for file in fs::read_dir(rt, folder)? {
-        let file = file?;
-        names.push(String::from_str(heap, file.file_name())?)?;
-    }
+    let mut names: Vec<String> = fs::read_dir(rt, folder)?
+        .map(|file| -> io::Result<String> { Ok(String::from_str(heap, file?.file_name())?) })
+        .try_collect(heap)?;
     names.sort()?;
     Ok(names)
 }

@@ -66,8 +66,7 @@ impl Report {
     pub fn line(&mut self, text: &str) -> Result<(), AllocError>
         ensures { self.new.tally ≡ self.old.tally }
     {
-        self.text.push_str(text)?;
-        self.text.push_str("\n")
+        write!(self.text, "{text}\n")
     }
 
     // What was tried since an earlier tally.
