@@ -31,7 +31,7 @@ fn add_one(count: &mut u32)
 }
 
 impl Tally {
-    // One more position. Each arm adds: tried with a match that gives the count, as a `&mut`, and one sum behind it, and `returns` stayed open.
+    // One more position.
     fn add(&mut self, finding: Finding)
         ensures { self.new ≡ tallied self.old finding }
     {
