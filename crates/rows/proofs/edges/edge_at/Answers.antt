@@ -1,5 +1,5 @@
 -- The parts of an edge stand one behind the other.
-use Rattle.std.proofs.Common.{◌≡◌, ℕ, ◌+◌, ◌≤◌, List, ◌∷◌, ◌++◌, length, get_or, drop, ap, ◌∙◌, inl, inr, arith}
+use Rattle.std.proofs.Common.{◌≡◌, ℕ, ◌+◌, ◌≤◌, List, ◌∷◌, ◌++◌, length, get_or, drop, ap, ◌∙◌, arith}
 use Rattle.std.proofs.lemmas.List.{take_rest}
 use Rattle.automata.specs.Automata.{Edge}
 use Rattle.automata.specs.Rows.{write_constraints}
@@ -18,18 +18,6 @@ ends : (row : List ℕ) (at : ℕ) (e : Edge) (rest : List ℕ)
     × (drop (at + 2) row ≡ length e.guard ∷ (write_constraints e.guard ++ afterGuard e rest))
     × (at + 2 ≤ length row)
 ends row at e rest h = behind_two row at e.source e.target (length e.guard ∷ (write_constraints e.guard ++ afterGuard e rest)) h
-
-pub returns-in_err-get-clause-part : goal.returns-in_err-get-clause-part
-returns-in_err-get-clause-part c =
-    λ e rest h.
-    let two = ends c.args.row.now c.args.at e rest h in
-    absurd (elim c.in_err-get.ensures.lookup.0 [ inl k ↦ omega (arith, two.3, k) | inr k ↦ omega (arith, k) ])
-
-pub returns-in_default-clause-part : goal.returns-in_default-clause-part
-returns-in_default-clause-part c =
-    λ e rest h.
-    let two = ends c.args.row.now c.args.at e rest h in
-    omega (arith, two.3, c.in_ok-get.ensures.lookup.0.3, c.in_default.len_below)
 
 pub returns-in_err-guard : goal.returns-in_err-guard
 returns-in_err-guard c =

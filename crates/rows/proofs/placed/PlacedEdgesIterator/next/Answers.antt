@@ -1,5 +1,5 @@
 -- The next edge is the one whose words begin there.
-use Rattle.std.proofs.Common.{◌≡◌, ℕ, ◌<◌, ◌≤◌, List, [], ◌∷◌, length, drop, None, Some, Option, sym, refl, ap, ◌∙◌, arith, length-drop, rules}
+use Rattle.std.proofs.Common.{◌≡◌, ℕ, ◌<◌, ◌≤◌, List, [], ◌∷◌, length, drop, Some, Option, sym, refl, ap, ◌∙◌, arith, length-drop, rules}
 use Rattle.std.proofs.iter.Next.{firm}
 use Rattle.automata.specs.Automata as automata
 use Rattle.automata.specs.Rows.{write_edges}
@@ -36,19 +36,6 @@ some_edge row s t v (e ∷ es) part same h i are =
       r.0,
       record { row_is = same ∙ are.row_is; words = sym (ap (drop t.at) are.row_is) ∙ r.1 },
     )
-
-no_edge : (row : List ℕ) (s t : PlacedEdges) (es : List automata.Edge)
-    → Part s None
-    → PlacedEdgesAre row es s
-    → NextPlacedEdge row es None t
-no_edge row s t [] part are = tt
-no_edge row s t (e ∷ es) part are = absurd (part e (write_edges es) (begins row s (e ∷ es) are))
-
-pub returns-in_err-edge-clause-steps : goal.returns-in_err-edge-clause-steps
-returns-in_err-edge-clause-steps c =
-    rw
-    c.from_residual.ensures
-    (λ row es are. no_edge row c.args.self.now _ es c.in_err-edge.ensures.part are)
 
 pub returns : goal.returns
 returns c =
