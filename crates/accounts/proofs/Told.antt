@@ -1,5 +1,5 @@
 -- A text that is written move by move, and in a line clock by clock.
-use Rattle.std.proofs.Common.{◌≡◌, ℕ, suc, ◌+◌, min, List, [], ◌∷◌, ◌++◌, length, get_or, Ok, Result, codes, sym, ap, ◌∙◌, subst, append_assoc, append-nil, add-one}
+use Rattle.std.proofs.Common.{◌≡◌, ℕ, suc, ◌+◌, min, List, [], ◌∷◌, ◌++◌, length, get_or, Ok, Result, codes, sym, ap, ◌∙◌, subst, append_assoc, add-one}
 use Rattle.automata.specs.Automata.{Automaton}
 use Rattle.clockworks.specs.Meaning.{Adds}
 use Rattle.clockworks.proofs.Writing.{adds_more, adds_same}
@@ -10,9 +10,6 @@ use Rattle.accounts.specs.declared.widths.Widths.{Widths}
 use Rattle.columns.specs.Columns.{padded}
 use Rattle.accounts.specs.Lines.{PartsText, name_of, MoveText, cell_of_clock, ClocksText, next_clock, LineText, Lines, no_line, next_line}
 use Rattle.accounts.specs.Walks.{Walked, no_move, next_move}
-
-pub adds_none : {xs : List ℕ} → Adds xs [] xs
-adds_none {xs = xs} = record { longer = sym (append-nil xs) }
 
 module _ {X : Type 0} (text : X → List ℕ) (names : List X) (w : Widths) (d : ℕ) (m : Moment) (start : List ℕ) where
   -- the clocks below n are written after start

@@ -1,15 +1,9 @@
 -- All constraints of a conjunction, one after the other.
-use Rattle.std.proofs.Common.{◌≡◌, ℕ, zero, suc, ◌<◌, Bool, true, false, List, [], ◌∷◌, Option, length, get_or, refl, subst, ap, arith}
+use Rattle.std.proofs.Common.{◌≡◌, ℕ, zero, suc, ◌<◌, Bool, true, false, List, [], ◌∷◌, length, get_or, refl, subst, arith}
 use mathlib.Core.Option.{some}
 use Rattle.std.specs.Bool.{MatchBool}
 use Rattle.std.specs.List.{AllWithin, HoldsAt}
-use Rattle.std.proofs.lemmas.Iterator.{YieldsList}
-use Rattle.std.proofs.lemmas.Iterator.Consumers.{YieldsList-from_shown}
 use Rattle.automata.specs.Automata.{nth, at_most, Constraint}
-use Rattle.rows.specs.declared.constraints.Constraint as constraints
-use Rattle.rows.specs.declared.constraints.Constraints.{Constraints}
-use Rattle.rows.specs.Parts.{constraint_value}
-use Rattle.rows.specs.Values.{constraints_value, NextConstraint}
 use Rattle.replay.specs.Checks.{Decides, MeetsParts, HoldsParts}
 use Rattle.replay.proofs.Lists.{some_within, some_same}
 
@@ -33,9 +27,3 @@ all_decide d value cs true all =
     let inside = some_within cs i c e in
     subst (Meets d value) (some_same (nth cs i) (get_or cs i c) c (nth_is cs i c inside) e) (all i c (omega arith) inside)
 all_decide d value cs false (i, inside, not) = λ holds. not any (holds i (get_or cs i any) (nth_is cs i any inside))
-
-abbrev Steps : Constraints → Option constraints.Constraint → Constraints → Type 0
-Steps s r t = NextConstraint (constraints_value s.words.now) r (constraints_value t.words.now)
-
-pub yields : (s : Constraints) → YieldsList Steps constraint_value s (constraints_value s.words.now)
-yields = YieldsList-from_shown Steps constraint_value (λ s. constraints_value s.words.now) (λ s t e. ap length e) (λ s x t e. e)

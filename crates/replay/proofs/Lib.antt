@@ -1,10 +1,8 @@
 pub mod Lists
-pub mod Made
 pub mod Constraints
 pub mod Numbered
 pub mod Resets
 pub mod Compared
-pub mod InRange
 pub mod Telling
 pub mod Judged
 pub mod Moving

@@ -6,11 +6,8 @@ use Rattle.automata.specs.Automata.{nth}
 use Rattle.rows.specs.declared.edges.Edge.{Edge}
 use Rattle.rows.specs.declared.views.Edges.{Edges}
 use Rattle.rows.specs.Views.{EdgesAre, NextEdge}
+use Rattle.rows.proofs.Yielding.{EdgeStep}
 use Rattle.replay.specs.Changes.{EdgeNumber}
-
--- one call of `next`
-abbrev Steps : Edges → Option Edge → Edges → Type 0
-Steps s r t = (es : List automata.Edge) → EdgesAre es s → NextEdge es r t
 
 -- so many edges are left out, or all where there are fewer
 abbrev Skipped : Option Edge → ℕ → ℕ → Type 0
@@ -33,8 +30,8 @@ stands_there (e ∷ es) (suc n) (Some v) u next h = absurd (omega arith)
 
 after : (es : List automata.Edge) (xs : List Edge) (n : ℕ) (r : Option Edge) (s t u : Edges)
     → EdgesAre es s
-    → Yields Steps s xs t
-    → Steps t r u
+    → Yields EdgeStep s xs t
+    → EdgeStep t r u
     → Skipped r (length xs) n
     → EdgeNumber (nth es n) r
 after es [] n r s t u are same step h = stands_there es n r u (step es (subst (EdgesAre es) same are)) h
@@ -45,6 +42,6 @@ after (e ∷ es) (x ∷ xs) (suc n) r s t u are (j, one, more) step h =
 
 pub edge_number : (es : List automata.Edge) (n : ℕ) (r : Option Edge) (s u : Edges)
     → EdgesAre es s
-    → SkipsThenYields Steps s n r u
+    → SkipsThenYields EdgeStep s n r u
     → EdgeNumber (nth es n) r
 edge_number es n r s u are (xs, (t, more, step), h) = after es xs n r s t u are more step h

@@ -4,6 +4,7 @@ use mathlib.Core.Option.{some, none-ne-some}
 use Rattle.automata.specs.Automata.{nth, Edge, Automaton}
 use Rattle.automata.specs.Runs.{State, Reached, start, next}
 use Rattle.regions.specs.Moves.{among}
+use Rattle.regions.proofs.Bounds.{reset-bound}
 use Rattle.replay.specs.declared.moments.Move.{Move}
 use Rattle.replay.specs.declared.moments.Move.TheVariants.{Wait, Step}
 use Rattle.replay.specs.declared.moments.Moment.{Moment}
@@ -78,10 +79,6 @@ after_time : (a : Automaton) (by : Move) (m after : Moment) → After a by m aft
 after_time a (Wait k) m after h = omega (arith, h.time)
 after_time a (Step i) m after (e, number, h) = omega (arith, h.time)
 
-reset-behind : (b : Bool) (u t : ℕ) → u ≤ t → cond b 0 u ≤ t
-reset-behind true u t h = omega arith
-reset-behind false u t h = h
-
 after_clocks : (a : Automaton) (by : Move) (m after : Moment)
     → After a by m after
     → ((i : ℕ) → i < 8 → clock_of m i ≤ m.time)
@@ -90,7 +87,7 @@ after_clocks : (a : Automaton) (by : Move) (m after : Moment)
     → clock_of after i ≤ after.time
 after_clocks a (Wait k) m after h behind i small = omega (arith, h.clocks i small, h.time, behind i small)
 after_clocks a (Step j) m after (e, number, h) behind i small =
-    rw (h.clocks i small, h.time) (reset-behind (among i e.resets) (clock_of m i) m.time (behind i small))
+    rw (h.clocks i small, h.time) (reset-bound (clock_of m i) m.time (among i e.resets) (behind i small))
 
 pub followed_on : (a : Automaton) (d : ℕ) (ms : List Move) (by : Move) (m after : Moment)
     → Followed a d ms m

@@ -1,10 +1,10 @@
 -- A moment that tells a state tells, after a wait or an edge, the state after it.
-use Rattle.std.proofs.Common.{ℕ, zero, suc, ◌<◌, ◌≤◌, Bool, true, false, cond, length, refl, ◌∙◌, arith}
-use Rattle.automata.specs.Times.{Time, zero_time}
+use Rattle.std.proofs.Common.{ℕ, zero, suc, ◌<◌, ◌≤◌, length, refl, ◌∙◌, arith}
 use Rattle.automata.specs.Automata.{Edge, Automaton}
 use Rattle.automata.specs.Runs.{State, value_of}
 use Rattle.regions.specs.Moves.{among}
 use Rattle.regions.specs.Points.{Is}
+use Rattle.regions.proofs.Grid.{is_set_back}
 use Rattle.regions.proofs.Orders.{is_add}
 use Rattle.regions.proofs.Valuations.{length-zeros, value_zeros, length-delayed, value_delayed, length-reset_all, value_reset_all}
 use Rattle.replay.specs.declared.moments.Moment.{Moment}
@@ -36,10 +36,6 @@ waited-tells n d k m after s few pos waited tells =
       time = rw waited.time (is_add d s.time (parts d k) m.time k tells.time (is_parts d k pos));
     }
 
-reset-is : (b : Bool) (d : ℕ) (t : Time) (u : ℕ) → Is d t u → Is d (cond b zero_time t) (cond b 0 u)
-reset-is true d t u e = omega arith
-reset-is false d t u e = e
-
 pub taken_tells : (n d : ℕ) (e : Edge) (m after : Moment) (s : State)
     → n ≤ 8
     → Taken e m after
@@ -53,7 +49,7 @@ taken_tells n d e m after s few taken tells =
           let small : i < 8 = omega arith in
           rw
           (value_reset_all s.valuation e.resets i, taken.clocks i small)
-          (reset-is (among i e.resets) d (value_of s.valuation i) (clock_of m i) (tells.value i h));
+          (is_set_back (among i e.resets) d (value_of s.valuation i) (clock_of m i) (tells.value i h));
       time = rw taken.time tells.time;
     }
 

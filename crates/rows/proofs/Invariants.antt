@@ -8,13 +8,11 @@ use Rattle.rows.specs.declared.views.Invariants.{Invariants}
 use Rattle.rows.specs.Views.{InvariantIs, InvariantsAre, NextInvariant}
 use Rattle.rows.proofs.Parts.{nth-behind}
 use Rattle.rows.proofs.Values.{InvariantIs-written}
-
-abbrev Gives : Invariants → Option Conjunction → Invariants → Type 0
-Gives s r t = (css : List (List Constraint)) → InvariantsAre css s → NextInvariant css r t
+use Rattle.rows.proofs.Yielding.{InvariantStep}
 
 -- behind so many are the others
 behind : (xs : List Conjunction) (s t : Invariants) (css : List (List Constraint))
-    → Yields Gives s xs t
+    → Yields InvariantStep s xs t
     → InvariantsAre css s
     → InvariantsAre (drop (length xs) css) t
 behind [] s t css e is = subst (InvariantsAre css) e is
@@ -46,7 +44,7 @@ none_left css (d ∷ ds) n t e next = absurd next
 -- what comes behind so many is the invariant at that place
 pub nth_invariant : (css : List (List Constraint)) (n : ℕ) (s u : Invariants) (r : Option Conjunction)
     → InvariantsAre css s
-    → SkipsThenYields Gives s n r u
+    → SkipsThenYields InvariantStep s n r u
     → InvariantIs (nth css n) r
 nth_invariant css n s u (Some c) is skips =
     let next = skips.1.2 (drop (length skips.0) css) (behind skips.0 s skips.1.0 css skips.1.1 is) in

@@ -1,7 +1,7 @@
 -- The words of the parts of a row.
 use Rattle.std.proofs.Common.{◌≡◌, ℕ, zero, suc, ◌+◌, ◌-◌, ◌*◌, ◌<◌, ◌≤◌, List, [], ◌∷◌, ◌++◌, length, get_or, take, drop, sym, refl, ap, ◌∙◌, subst, append_assoc, add-one, arith, length-append, length-drop, drop-cons, drop-drop}
 use mathlib.Core.Option.{some, none}
-use lib.Seq.{drop-append_seam}
+use lib.Seq.{drop-append_seam, take-append_seam}
 use Rattle.automata.specs.Automata.{nth, Constraint}
 use Rattle.automata.specs.Rows.{write_constraints, write_invariants}
 
@@ -38,12 +38,8 @@ pub behind_part : (row : List ℕ) (at : ℕ) (ws rest : List ℕ) → drop at r
 behind_part row at ws rest e =
     sym (drop-drop (length ws) at row) ∙ ap (drop (length ws)) e ∙ drop-append_seam ws rest
 
-take_part : (ws rest : List ℕ) → take (length ws) (ws ++ rest) ≡ ws
-take_part [] rest = refl
-take_part (w ∷ ws) rest = ap (λ (z : List ℕ). w ∷ z) (take_part ws rest)
-
 pub part_is : (row : List ℕ) (at : ℕ) (ws rest : List ℕ) → drop at row ≡ ws ++ rest → take (length ws) (drop at row) ≡ ws
-part_is row at ws rest e = rw e (take_part ws rest)
+part_is row at ws rest e = rw e (take-append_seam ws rest)
 
 pub part_within : (row : List ℕ) (at : ℕ) (ws rest : List ℕ) → at ≤ length row → drop at row ≡ ws ++ rest → at + length ws ≤ length row
 part_within row at ws rest h e =
@@ -64,11 +60,6 @@ invariants_from (ds ∷ css) rest (suc i) cs e =
     let s : suc i + 1 ≡ suc (i + 1) = omega arith in
     rw s ih
 
-pub nth-within : {A : Type 0} (xs : List A) (i : ℕ) → i < length xs → (x : A) × (nth xs i ≡ some x)
-nth-within [] i h = absurd (omega arith)
-nth-within (x ∷ xs) zero h = (x, refl)
-nth-within (x ∷ xs) (suc i) h = nth-within xs i (omega arith)
-
 -- a part whose number of elements stands in front of it
 pub counted : (row : List ℕ) (at k end : ℕ) (ws rest : List ℕ)
     → drop at row ≡ k ∷ (ws ++ rest)
@@ -82,11 +73,6 @@ counted row at k end ws rest e f =
       rw f (behind_part row (at + 1) ws rest behind),
       omega (arith, part_within row (at + 1) ws rest (omega (arith, within)) behind),
     )
-
--- the part is there
-pub counted_within : (row : List ℕ) (at k : ℕ) (ws rest : List ℕ) → drop at row ≡ k ∷ (ws ++ rest) → at + 1 + length ws ≤ length row
-counted_within row at k ws rest e =
-    part_within row (at + 1) ws rest (omega (arith, starts_within row at k (ws ++ rest) e)) (behind_first row at k (ws ++ rest) e)
 
 -- the two words before the guard of an edge
 pub behind_two : (row : List ℕ) (at v w : ℕ) (ws : List ℕ)

@@ -1,6 +1,7 @@
 -- What is written is read back, and what is read is what was written.
-use Rattle.std.proofs.Common.{◌≡◌, ℕ, zero, suc, ◌<◌, ◌≤◌, Bool, true, false, cond, ◌&&◌, T, ltb, leb, List, [], ◌∷◌, ◌++◌, length, sym, refl, ap, ◌∙◌, subst, append_assoc, arith, length-append, ltb-true, lt-ltb, le-leb, leb-true}
+use Rattle.std.proofs.Common.{◌≡◌, ℕ, zero, suc, ◌<◌, ◌≤◌, Bool, true, false, cond, ◌&&◌, ltb, leb, List, [], ◌∷◌, ◌++◌, length, sym, refl, ap, ◌∙◌, subst, append_assoc, arith, length-append, ltb-true, lt-ltb, le-leb, leb-true}
 use mathlib.Core.Option.{Option, some, none}
+use lib.Ieee.Bits.{is_true}
 use Rattle.std.proofs.lemmas.Bool.{and_parts, and_from}
 use Rattle.std.proofs.lemmas.Float.{T_from_true}
 use Rattle.automata.specs.Automata.{Relation, at_most, below, at_least, above, Constraint, Edge, Automaton}
@@ -11,10 +12,6 @@ use Rattle.rows.specs.Parts.{edge_words}
 use Rattle.rows.specs.Statements.{RowsRound}
 
 -- a test that is true
-pub from_T : (x : Bool) → T x → x ≡ true
-from_T true t = refl
-from_T false t = absurd t
-
 -- relations and their codes
 pub relation_of-code : (r : Relation) → relation_of (code r) ≡ r
 relation_of-code at_most = refl
@@ -175,7 +172,7 @@ complete row a r = subst (λ (ws : List ℕ). parse ws ≡ some a) r.written who
 
     parts : (limits ≡ true) × (places ≡ true) × (fine_invariants n a.invariants ≡ true) × (fine_edges n p a.edges ≡ true)
     parts =
-        let s = and_parts limits (places && (fine_invariants n a.invariants && fine_edges n p a.edges)) (from_T (fine a) r.sound) in
+        let s = and_parts limits (places && (fine_invariants n a.invariants && fine_edges n p a.edges)) (is_true (fine a) r.sound) in
         let t = and_parts places (fine_invariants n a.invariants && fine_edges n p a.edges) s.1 in
         let u = and_parts (fine_invariants n a.invariants) (fine_edges n p a.edges) t.1 in
         (s.0, t.0, u.0, u.1)

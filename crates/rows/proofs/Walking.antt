@@ -1,5 +1,5 @@
 -- Going over a row word by word: what each step says of the reading from there on.
-use Rattle.std.proofs.Common.{◌≡◌, ℕ, zero, suc, ◌+◌, ◌-◌, ◌<◌, ◌≤◌, true, List, [], ◌∷◌, length, get_or, drop, Ok, Err, Result, refl, ap, ◌∙◌, subst, zero-add, add-one, arith, length-append, drop_of_length-le, drop-cons, le-ltb, lt-ltb, inl, inr}
+use Rattle.std.proofs.Common.{◌≡◌, ℕ, zero, suc, ◌+◌, ◌-◌, ◌<◌, ◌≤◌, true, List, [], ◌∷◌, length, get_or, drop, Ok, Err, Result, refl, ap, ◌∙◌, subst, zero-add, add-one, arith, length-append, drop_of_length-le, drop-cons, lt-ltb, inl, inr}
 use Rattle.std.proofs.lemmas.Bool.{cases_lt}
 use mathlib.Core.Option.{some, none}
 use Rattle.automata.specs.Automata.{Constraint, Edge}
@@ -145,12 +145,6 @@ invariant-step n row at (Ok end) t =
 invariant-step n row at (Err f) t = (λ k. rw t.0, t.1)
 
 -- a clock that is reset
-pub clock-ends : (n : ℕ) (row : List ℕ) (at : ℕ) → length row ≤ at → (k : ℕ) → parse_clocks n (suc k) (drop at row) ≡ none
-clock-ends n row at h k = rw (drop_of_length-le row h)
-
-pub clock-none : (n : ℕ) (row : List ℕ) (at : ℕ) → at < length row → n ≤ get_or row at 0 → (k : ℕ) → parse_clocks n (suc k) (drop at row) ≡ none
-clock-none n row at h i k = rw (drop-one row at h, le-ltb (get_or row at 0) n i)
-
 pub clock-more : (n : ℕ) (row : List ℕ) (at : ℕ)
     → at < length row
     → get_or row at 0 < n
@@ -211,9 +205,6 @@ enough_fuel n p (suc f) (suc g) (w ∷ ws) h i =
     go (some x) shorter same = ap (prepend x.0) (same x.1 (shorter x.0 x.1 refl))
 
 module _ (n p : ℕ) where
-  pub edges_none : (ws : List ℕ) → 0 < length ws → parse_edge n p ws ≡ none → parse_edges n p (length ws) ws ≡ none
-  edges_none [] h e = absurd (omega arith)
-  edges_none (w ∷ ws) h e = rw e
 
   pub edges_more : (ws rest : List ℕ) (e : Edge)
       → 0 < length ws
@@ -225,6 +216,3 @@ module _ (n p : ℕ) where
       let same : parse_edges n p (length ws) rest ≡ parse_edges n p (length rest) rest =
       enough_fuel n p (length ws) (length rest) rest (omega (arith, s)) (omega arith) in
       rw (i, same) (leads_prepend e (parse_edges n p (length rest) rest))
-
-  pub edges_end : (row : List ℕ) (at : ℕ) → length row ≤ at → parse_edges n p (length (drop at row)) (drop at row) ≡ some ([], [])
-  edges_end row at h = rw (drop_of_length-le row h)

@@ -1,7 +1,7 @@
 -- A point is within the square of a region just where it shows the region.
 use Rattle.std.proofs.Common.{◌≡◌, ℕ, zero, suc, ◌+◌, ◌*◌, ◌<◌, ◌≤◌, ◌↔◌, refl, inl, inr, arith, ne_eqb}
+use Rattle.std.proofs.lemmas.Bool.Decides.{eqb_tells}
 use Rattle.regions.specs.Points.{Point, On, Shows}
-use Rattle.regions.proofs.Tests.{eqb_cases}
 use Rattle.cells.specs.declared.values.Region.{Region}
 use Rattle.cells.specs.Meaning.{cell_of, region_value}
 use Rattle.squares.specs.declared.squares.Square.{Square}
@@ -60,7 +60,7 @@ module _ (n d top : ℕ) (p : Point) (K : Region) (q : Square) (of : Of n top K 
 
     ordered : (i j : ℕ) → i < n → j < n → Ordered top (cell_of K i) (cell_of K j) (p.rest i) (p.rest j)
     ordered i j h g =
-        elim (eqb_cases i j) [
+        elim (eqb_tells i j) [
           | inl same ↦ rw same.1 (λ a b. (λ l. absurd (omega arith), λ l. absurd (omega arith)))
           | inr other ↦
               keeps_order
@@ -106,7 +106,7 @@ module _ (n d top : ℕ) (p : Point) (K : Region) (q : Square) (of : Of n top K 
 
     shows_within : WithinOver n d p q
     shows_within i j h g =
-        elim (eqb_cases i j) [
+        elim (eqb_tells i j) [
           | inl same ↦ rw (of.bounds i j h g, same.0, same.1) (omega arith)
           | inr other ↦
               rw

@@ -1,8 +1,9 @@
 -- The square of a region is tight: no bound between two cells follows more sharply by way of a third.
 use Rattle.std.proofs.Common.{◌≡◌, ℕ, ◌+◌, ◌*◌, ◌/◌, ◌≤◌, Bool, true, false, not, ◌||◌, eqb, pos, ◌+ℤ◌, ◌-ℤ◌, sym, refl, inl, inr, arith, eq-eqb}
+use mathlib.Core.Bool.{false≢true}
 use native.Mathlib.Decide.{dec_lt}
 use Rattle.std.proofs.lemmas.Int.{ints}
-use Rattle.regions.proofs.Tests.{eqb_cases}
+use Rattle.std.proofs.lemmas.Bool.Decides.{eqb_tells}
 use Rattle.cells.specs.declared.values.Cell.{Cell}
 use Rattle.cells.specs.declared.values.Region.{Region}
 use Rattle.squares.specs.declared.bounds.Bound.{Bound}
@@ -48,7 +49,7 @@ module _ (top : ℕ) (c f e : Cell) where
       → (not (eqb c.rank f.rank) || not (eqb f.rank e.rank)) ≡ true
       → not (eqb c.rank e.rank) ≡ true
   strict_by le s =
-      elim (eqb_cases c.rank e.rank) [
+      elim (eqb_tells c.rank e.rank) [
         | inr other ↦ rw other.0 refl
         | inl same ↦
             let cases = one_if-cases f.rank c.rank in
@@ -57,11 +58,8 @@ module _ (top : ℕ) (c f e : Cell) where
             let first : c.rank ≡ f.rank = omega (arith, cases, cases', cases'') in
             let second : f.rank ≡ e.rank = omega (arith, cases, cases', cases'') in
             absurd
-            (clash (rw (eq-eqb c.rank f.rank first, eq-eqb f.rank e.rank second) at s))
+            (false≢true (rw (eq-eqb c.rank f.rank first, eq-eqb f.rank e.rank second) at s))
       ]
-    where
-      clash : false ≡ true → ⊥
-      clash h = let z : ◌≡◌ {A = ℕ} 0 1 = cc in omega arith
 
   by_way : Sharper (sum (between top c f) (between top f e)) (between top c e) → ⊥
   by_way =
@@ -171,13 +169,13 @@ square_tight n top K q room of = record { room = room; sharpest = sharpest }
 
     sharpest : (i j k : ℕ) → i ≤ n → j ≤ n → k ≤ n → Sharper (sum (entry q i k) (entry q k j)) (entry q i j) → ⊥
     sharpest i j k h g l =
-        elim (eqb_cases i k) [
+        elim (eqb_tells i k) [
           | inl same ↦ rw (on_diagonal i k h l same.1, sym same.1) (not_sharper_before (entry q i j))
           | inr other ↦
-              elim (eqb_cases k j) [
+              elim (eqb_tells k j) [
                 | inl same ↦ rw (on_diagonal k j l g same.1, same.1) (not_sharper_behind (entry q i j))
                 | inr other' ↦
-                    elim (eqb_cases i j) [
+                    elim (eqb_tells i j) [
                       | inl same ↦
                           rw
                           (on_diagonal i j h g same.1, off_diagonal n top K q i k of h l other.1, off_diagonal n top K q k j of l g other'.1, sym same.1)

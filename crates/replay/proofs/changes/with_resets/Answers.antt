@@ -1,7 +1,7 @@
 -- A clock is 0 just where it is among the resets.
 use Rattle.std.proofs.Common.{◌≡◌, ℕ, cond, eqb, get_or, rules}
 use Rattle.std.specs.List.{list_any}
-use Rattle.replay.proofs.Made.{made}
+use Rattle.rows.proofs.Made.{made}
 use Rattle.replay.proofs.Resets.{among_any}
 use Rattle.replay.proofs.changes.with_resets.Goals as goal
 

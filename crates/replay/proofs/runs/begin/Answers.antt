@@ -5,7 +5,6 @@ use Rattle.rows.specs.Views.{automaton_value}
 use Rattle.rows.proofs.Values.{views}
 use Rattle.replay.specs.declared.moments.Moment.{Moment}
 use Rattle.replay.specs.Outcomes.{AtStart, Begins}
-use Rattle.replay.proofs.InRange.{reads_in_range}
 use Rattle.replay.proofs.Judged.{by_test}
 use Rattle.replay.proofs.Moving.{start_come, start_fails}
 use Rattle.replay.proofs.runs.begin.Goals as goal
@@ -19,7 +18,7 @@ at_the_start = record { location = refl; clocks = λ i h. get_or-replicate 8 i 0
 pub returns : goal.returns
 returns c =
     let a = automaton_value c.args.automaton.now in
-    let range = reads_in_range (views c.args.automaton.now).reads in
+    let sound = (views c.args.automaton.now).reads.sound in
     by_test (Begins a) _ start _ _ _ c.then_some.ensures c.ok_or.ensures.value c.allowed.ensures
-    (λ q. (at_the_start, start_come a range start at_the_start q))
-    (λ n. (refl, start_fails a range start at_the_start n))
+    (λ q. (at_the_start, start_come a sound start at_the_start q))
+    (λ n. (refl, start_fails a sound start at_the_start n))

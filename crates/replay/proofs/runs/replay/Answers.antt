@@ -13,7 +13,7 @@ use Rattle.replay.specs.declared.moments.Moment.{Moment}
 use Rattle.replay.specs.declared.moments.Fault.{Fault}
 use Rattle.replay.specs.Moves.{start_state}
 use Rattle.replay.specs.Outcomes.{Advanced, Fails, Refused}
-use Rattle.replay.proofs.InRange.{reads_in_range}
+use Rattle.regions.proofs.Sound.{clocks_in_range}
 use Rattle.replay.proofs.Paths.{Followed, followed_start, followed_on, refused_at}
 use Rattle.replay.proofs.runs.replay.Goals as goal
 
@@ -60,7 +60,7 @@ loop-next-init c =
     let player = c.in_ok-player.player in
     let (at, come) = rw (← c.in_ok-player.ensures.0) at c.in_ok-moment.ensures in
     followed_start (automaton_value player.automaton) player.denominator c.in_ok-moment.moment
-    (reads_in_range (views player.automaton).reads).clocks at (come player.denominator)
+    (clocks_in_range (automaton_value player.automaton) (views player.automaton).reads.sound).1 at (come player.denominator)
 
 pub returns-in_err-moment-2 : goal.returns-in_err-moment-2
 returns-in_err-moment-2 c =

@@ -2,7 +2,8 @@ use Rattle.std.proofs.Common.{◌≡◌, ℕ, ◌/◌, ◌%◌, ◌<◌, get_or,
 use Rattle.squares.specs.declared.bounds.Bound.{Bound}
 use Rattle.squares.specs.declared.bounds.Bound.TheVariants.{Unbounded}
 use Rattle.squares.specs.Entries.{bound_at}
-use Rattle.squares.proofs.Filling.{made, filled_by_places}
+use Rattle.rows.proofs.Made.{made}
+use Rattle.squares.proofs.Filling.{filled_by_places}
 use Rattle.squares.proofs.SquareOf.{square_of}
 use Rattle.squares.proofs.shapes.of_region.Goals as goal
 

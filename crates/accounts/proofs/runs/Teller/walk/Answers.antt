@@ -1,4 +1,4 @@
-use Rattle.std.proofs.Common.{List, get_or, take, sym, subst}
+use Rattle.std.proofs.Common.{List, get_or, sym, subst}
 use Rattle.std.proofs.lemmas.List.{take_more}
 use Rattle.replay.specs.declared.moments.Move.{Move}
 use Rattle.replay.specs.declared.moments.Move.TheVariants.{Wait}

@@ -6,7 +6,8 @@ use Rattle.clockworks.proofs.Writing.{adds_same}
 use Rattle.columns.specs.Columns.{padded}
 use Rattle.accounts.specs.Lines.{PartsText, no_clock}
 use Rattle.accounts.proofs.Named.{name_at}
-use Rattle.accounts.proofs.Told.{adds_none, ClocksWritten, clocks_more}
+use Rattle.clockworks.proofs.Writing.{adds_none}
+use Rattle.accounts.proofs.Told.{ClocksWritten, clocks_more}
 use Rattle.accounts.proofs.Walked.{picked, walked}
 use Rattle.accounts.proofs.runs.Teller.write_clocks.Goals as goal
 

@@ -1,6 +1,7 @@
 -- An edge may be taken if its guard holds, and the invariant of its target after it.
-use Rattle.std.proofs.Common.{◌≡◌, ℕ, ◌<◌, ◌≤◌, cond, List, get_or, Some, sym, refl, ◌∙◌, subst, rules}
+use Rattle.std.proofs.Common.{◌≡◌, ℕ, ◌<◌, ◌≤◌, cond, T, List, get_or, Some, sym, refl, ◌∙◌, subst, rules}
 use Rattle.automata.specs.Automata as automata
+use Rattle.automata.specs.Rows.{fine}
 use Rattle.regions.specs.Moves.{among}
 use Rattle.rows.specs.declared.edges.Edge.{Edge}
 use Rattle.rows.specs.EdgeParts.{EdgeIs}
@@ -13,7 +14,6 @@ use Rattle.replay.specs.Meaning.{clock_of}
 use Rattle.replay.specs.Checks.{HoldsParts}
 use Rattle.replay.specs.Changes.{Taken, EdgeNumber}
 use Rattle.replay.specs.Outcomes.{Advanced, Advances, StepFails}
-use Rattle.replay.proofs.InRange.{InRange, reads_in_range}
 use Rattle.replay.proofs.Judged.{by_test}
 use Rattle.replay.proofs.Moving.{guard_fails, target_fails, step_advances}
 use Rattle.replay.proofs.runs.Player.step.Goals as goal
@@ -35,7 +35,7 @@ taken v e m clocks is resets =
 -- the automaton, the denominator, the edge of the code and of the definitions, and the moment before
 module _
     (a : automata.Automaton)
-    (range : InRange a)
+    (sound : T (fine a))
     (d : ℕ)
     (pos : 1 ≤ d)
     (i : ℕ)
@@ -43,7 +43,7 @@ module _
     (m : Moment)
     (found : EdgeNumber (automata.nth a.edges i) (Some v)) where
   guard-fault : (HoldsParts d (clock_of m) found.0.guard → ⊥) → StepFails a d m i GuardFails
-  guard-fault not = (found.0, found.1, guard_fails a range d pos i found.0 m found.1 not)
+  guard-fault not = (found.0, found.1, guard_fails a sound d pos i found.0 m found.1 not)
 
   module _
       (clocks : List ℕ)
@@ -53,7 +53,7 @@ module _
     target-fault not = (
       found.0,
       found.1,
-      target_fails a range d pos i found.0 m found.1 (after_edge v m clocks) (taken v found.0 m clocks found.2 resets) not,
+      target_fails a sound d pos i found.0 m found.1 (after_edge v m clocks) (taken v found.0 m clocks found.2 resets) not,
     )
 
     edge-taken : v.source.0 ≡ m.location.0
@@ -61,14 +61,14 @@ module _
         → HoldsParts d (clock_of (after_edge v m clocks)) (automata.invariant a v.target.0)
         → Advanced a d m (Step i) (after_edge v m clocks)
     edge-taken source =
-        step_advances a range d pos i found.0 m found.1 (after_edge v m clocks) (taken v found.0 m clocks found.2 resets)
+        step_advances a sound d pos i found.0 m found.1 (after_edge v m clocks) (taken v found.0 m clocks found.2 resets)
         (sym found.2.source ∙ source)
 
 pub returns-then-not-holds : goal.returns-then-not-holds
 returns-then-not-holds c =
     let player = c.args.self.now in
     let found = rw c.in_ok-edge.ensures.ok_part at c.numbered_edge.ensures in
-    guard-fault (automaton_value player.automaton) (reads_in_range (views player.automaton).reads) player.denominator player.positive
+    guard-fault (automaton_value player.automaton) (views player.automaton).reads.sound player.denominator player.positive
     c.args.number c.in_ok-edge.edge c.args.moment.now found
     (rw (constraints_value-is c.in_ok-edge.edge.guard.words.now found.0.guard found.2.guard) at c.if-not-holds.ensures)
 
@@ -76,7 +76,7 @@ pub returns : goal.returns
 returns c =
     let player = c.args.self.now in
     let a = automaton_value player.automaton in
-    let range = reads_in_range (views player.automaton).reads in
+    let sound = (views player.automaton).reads.sound in
     let d = player.denominator in
     let i = c.args.number in
     let v = c.in_ok-edge.edge in
@@ -84,6 +84,6 @@ returns c =
     let found = rw c.in_ok-edge.ensures.ok_part at c.numbered_edge.ensures in
     let clocks = c.with_resets.result in
     by_test (Advances a d m (Step i)) _ _ _ _ _ c.then_some.ensures c.ok_or-2.ensures.value c.is_allowed.ensures
-    (edge-taken a range d player.positive i v m found clocks c.with_resets.ensures (search rules)
+    (edge-taken a sound d player.positive i v m found clocks c.with_resets.ensures (search rules)
     (rw (constraints_value-is v.guard.words.now found.0.guard found.2.guard) at c.if-not-holds.ensures))
-    (target-fault a range d player.positive i v m found clocks c.with_resets.ensures)
+    (target-fault a sound d player.positive i v m found clocks c.with_resets.ensures)
