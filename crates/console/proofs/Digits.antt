@@ -5,7 +5,7 @@ use Rattle.std.specs.Result.{MatchResult, OkIff, result_ok}
 use Rattle.std.specs.Str.{all_ascii_digits, IsUtf8}
 use Rattle.std.proofs.lemmas.Fmt.{IsAscii-from_digits}
 use Rattle.std.proofs.lemmas.Str.{IsUtf8-from_ascii}
-use Rattle.std.proofs.lemmas.Bool.{false≢true, ltb-true, ltb-false}
+use Rattle.std.proofs.lemmas.Bool.{false≢true, and_parts, ltb-true, ltb-false}
 use Rattle.std.proofs.lemmas.Bool.Decides.{nat_tests}
 use Rattle.std.proofs.lemmas.Str.Parse.{IsNumeralModel, numerals_by_fold}
 use Rattle.console.specs.Numbers.{digit_pushed, push_all, number_of}
@@ -31,20 +31,12 @@ pushed-beyond n c past = grind (arith, nat_tests)
 pushed-none : (n c : ℕ) → is_ascii_digit c ≡ false → digit_pushed n c ≡ None
 pushed-none n c d = grind (arith, nat_tests)
 
-first_true : (a b : Bool) → (a && b) ≡ true → a ≡ true
-first_true true b e = refl
-first_true false b e = e
-
-second_true : (a b : Bool) → (a && b) ≡ true → b ≡ true
-second_true true b e = e
-second_true false b e = absurd (false≢true e)
-
 push_reads : (cs : List ℕ) (n : ℕ) → all_ascii_digits cs ≡ true → read_on n cs < 4294967296 → push_all (Some n) cs ≡ Some (read_on n cs)
 push_reads [] n d fits = refl
 push_reads (c ∷ cs) n d fits =
     let more = read_more cs (n * 10 + (c - 48)) in
-    let here = pushed-digit n c (first_true _ _ d) (omega arith) in
-    ap (λ (o : Option ℕ). push_all o cs) here ∙ push_reads cs (n * 10 + (c - 48)) (second_true _ _ d) fits
+    let here = pushed-digit n c (and_parts _ _ d).0 (omega arith) in
+    ap (λ (o : Option ℕ). push_all o cs) here ∙ push_reads cs (n * 10 + (c - 48)) (and_parts _ _ d).1 fits
 
 push_any : (o : Option ℕ) (cs : List ℕ) → ((m : ℕ) → push_all (Some m) cs ≡ None) → push_all o cs ≡ None
 push_any None cs h = refl
@@ -66,8 +58,8 @@ large_here c n cs false e d later = ap (λ (o : Option ℕ). push_all o cs) (pus
 push_large : (cs : List ℕ) (n : ℕ) → all_ascii_digits cs ≡ true → n < 4294967296 → 4294967296 ≤ read_on n cs → push_all (Some n) cs ≡ None
 push_large [] n d small large = absurd (omega arith)
 push_large (c ∷ cs) n d small large =
-    large_here c n cs (ltb (n * 10 + (c - 48)) 4294967296) refl (first_true _ _ d)
-    (λ fits. push_large cs (n * 10 + (c - 48)) (second_true _ _ d) fits large)
+    large_here c n cs (ltb (n * 10 + (c - 48)) 4294967296) refl (and_parts _ _ d).0
+    (λ fits. push_large cs (n * 10 + (c - 48)) (and_parts _ _ d).1 fits large)
 
 some_number : (bs : List ℕ) → all_ascii_digits bs ≡ true → 0 < length bs → read_on 0 bs < 4294967296 → number_of bs ≡ Some (read_on 0 bs)
 some_number [] d more fits = absurd (omega arith)

@@ -1,6 +1,7 @@
 -- The first place in a list at which a test passes.
 use Rattle.std.proofs.Common.{◌≡◌, ℕ, ◌+◌, ◌-◌, ◌<◌, ◌≤◌, Bool, true, false, not, cond, List, [], ◌∷◌, map, length, get_or, drop, Some, None, Option, sym, refl, ap, ◌∙◌, subst, inr, arith, length-drop}
 use lib.ListN.{length-map}
+use Rattle.std.specs.Cmp.{booleans_Decides}
 use Rattle.std.specs.Bool.{beq, then_some}
 use Rattle.std.specs.List.{position, position_or_len}
 use Rattle.std.specs.Option.{unwrap_or}
@@ -54,12 +55,6 @@ other_blank true false e = refl
 other_blank false true e = refl
 other_blank false false e = absurd (false≢true (sym e))
 
-same_blank : (b is : Bool) → beq b is ≡ true → b ≡ is
-same_blank true true e = refl
-same_blank true false e = absurd (false≢true e)
-same_blank false true e = absurd (false≢true e)
-same_blank false false e = refl
-
 -- the first place from a place on where a byte is blank, or is not
 pub first_blank : (bytes : List ℕ) (from : ℕ) (is : Bool) → from ≤ length bytes → FirstBlank bytes from is (not is) (from + position_or_len (λ b. beq (blank b) is) (drop from bytes))
 first_blank bytes from is inside =
@@ -74,7 +69,7 @@ first_blank bytes from is inside =
           let there : from + (k - from) ≡ k = omega arith in
           let read : get_or rest (k - from) 0 ≡ get_or bytes k 0 = get_or-drop from bytes (k - from) 0 ∙ ap (λ (n : ℕ). get_or bytes n 0) there in
           other_blank _ _ (ap p (sym read) ∙ fails_before_first p rest (k - from) 0 (omega arith));
-      here = λ lt. same_blank _ _ (ap p (sym (get_or-drop from bytes (position_or_len p rest) 0)) ∙ passes_at_first p rest 0 (omega arith));
+      here = λ lt. (booleans_Decides _ _).0 (ap p (sym (get_or-drop from bytes (position_or_len p rest) 0)) ∙ passes_at_first p rest 0 (omega arith));
     }
 
 -- where no name is the word, and the word is a number or none

@@ -1,6 +1,6 @@
 // Answers as text: `at 5`, `after 2`, `never`, and lines with a name and an answer in columns.
-ghost use Rattle.std.specs.Prelude.{Some, string_bytes, OnOk};
-ghost use Rattle.clockworks.specs.Meaning.{Adds};
+ghost use Rattle.std.specs.Prelude.{Some, OnOk};
+ghost use Rattle.clockworks.specs.Meaning.{AddsText};
 ghost use Rattle.console.specs.Answers.{answer_text, line_text};
 
 use clocks::answers::Asked;
@@ -55,13 +55,14 @@ impl<'a> fmt::Display for Line<'a> {
 
 // What an answer says. The patch in docs/ calls it.
 pub fn write_answer(text: &mut String, answer: Answer) -> Result<(), AllocError>
-    ensures { OnOk result (Adds (string_bytes text.old) (answer_text answer.kinds answer.asked) (string_bytes text.new)) }
+    ensures { OnOk result (AddsText text.old (answer_text answer.kinds answer.asked) text.new) }
 {
     write!(text, "{answer}")
 }
 
+// A line. Of its own beside `write_answer`, as each says in its clause what text it adds.
 pub fn write_line(text: &mut String, line: Line<'_>) -> Result<(), AllocError>
-    ensures { OnOk result (Adds (string_bytes text.old) (line_text line.entry.answer.kinds line.entry.width line.entry.name.now line.entry.answer.asked) (string_bytes text.new)) }
+    ensures { OnOk result (AddsText text.old (line_text line.entry.answer.kinds line.entry.width line.entry.name.now line.entry.answer.asked) text.new) }
 {
     write!(text, "{line}")
 }

@@ -7,11 +7,11 @@ use crate::input::Source;
 use crate::positions::Unknown;
 use clockworks::write::Unfit;
 use drawing::errors::{Refusal, Wrong};
-use std::alloc::{AllocError, AllocFailed};
+use std::alloc::AllocError;
 use std::{fmt, io};
 
 // What stands in a row of numbers in place of what was expected.
-#[derive(Drop)]
+#[derive(Debug, Drop)]
 pub enum Found {
     Word(String),
     // A word that is long, or has characters that are not shown.
@@ -19,7 +19,7 @@ pub enum Found {
     TextEnd,
 }
 
-#[derive(Clone, Copy)]
+#[derive(Debug, Clone, Copy)]
 pub enum Expected {
     Number,
     FewNumbers,
@@ -33,8 +33,8 @@ pub enum Expected {
     Position { positions: u32 },
 }
 
-// Why there is no answer.
-#[derive(Drop)]
+// Why there is no answer. Told by a `Report`, with the source.
+#[derive(Debug, Drop)]
 pub enum Problem {
     Memory,
     Unreadable(io::Error),

@@ -44,10 +44,7 @@ fn is_swapped(a: &[char], b: &[char]) -> bool
 fn differs_at_start(a: &[char], b: &[char]) -> bool
     ensures { Decides result (StartChange a.now b.now) }
 {
-    if rest(a) == rest(b) || rest(a) == b || a == rest(b) {
-        return true;
-    }
-    is_swapped(a, b)
+    rest(a) == rest(b) || rest(a) == b || a == rest(b) || is_swapped(a, b)
 }
 
 // Whether one character was changed, left out or put in, or two neighbours swapped, or nothing is different. By hand: `osa_distance` of strsim

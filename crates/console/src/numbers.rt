@@ -11,8 +11,8 @@ use rows::limits::MOST_WORDS;
 use rows::numbers::Numbers;
 use std::alloc::{AllocFailed, Global};
 
-// Why a text is no row of numbers. Words are counted from 0.
-#[derive(Clone, Copy)]
+// Why a text is no row of numbers. Words are counted from 0. No Display: it is told with what stands there, as a `Wrong`.
+#[derive(Debug, Clone, Copy)]
 pub enum Mistake {
     Memory,
     NoNumber(usize),

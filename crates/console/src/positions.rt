@@ -11,7 +11,7 @@ use crate::numbers;
 use std::alloc::{AllocError, Global};
 
 // What a word that names no position is told with: a name that is nearly it, and what there is.
-#[derive(Drop)]
+#[derive(Debug, Drop)]
 pub struct Unknown {
     pub word: String,
     pub nearest: Option<String>,
