@@ -47,7 +47,7 @@ pub fn find(
         kinds,
     };
     let shown = match explored {
-        Ok(table) => match witness_of(heap, automaton, &table, kinds, location, part) {
+        Ok(table) => match witness_of(heap, automaton, &table, location, part) {
             Ok(witness) => Ok(witness),
             Err(failure) => Err(no_room(failure)?),
         },

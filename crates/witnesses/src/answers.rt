@@ -30,14 +30,12 @@ fn arrival_for(answer: Answer, part: u32) -> Option<Arrival>
     }
 }
 
-// A witness of what the table, of at most so many entries, tells of a location: none where it is never come to. Where it is come
-// to only after a time, the run ends by less than 1 / part after it. Its six parameters are kept, since a struct is no plainer: no two of
-// them stand together elsewhere, so each call would put them in, and the first line here would take them out.
+// A witness of what the table tells of a location: none where it is never come to. Where it is come to only after a time, the run
+// ends by less than 1 / part after it.
 pub fn witness_of(
     heap: Global,
     automaton: &Automaton,
     table: &Table,
-    kinds: u32,
     location: Location,
     part: u32,
 ) -> Result<Option<Witness>, Failure>
@@ -52,7 +50,7 @@ pub fn witness_of(
     };
     let entry = table.first(location.0 as usize).ok_or(Failure::Astray)?;
     let region = table.region(entry).ok_or(Failure::Astray)?;
-    let way = way_to(heap, automaton, table, entry, kinds)?;
+    let way = way_to(heap, automaton, table, entry)?;
     let run = realise(heap, automaton, way.as_slice(), location, arrival)?;
     Ok(Some(Witness {
         arrival,
