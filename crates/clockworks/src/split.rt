@@ -25,6 +25,7 @@ impl Numbers<'_> {
     fn list<P: Split>(&mut self) -> Result<Vec<P>, Unfit>
         ensures { OnOk result (length self.new.rest.now < length self.old.rest.now) }
     {
+        // A loop: tried by `map` and `try_collect`, and `returns` stayed open, as what a closure borrowed is not known past its chain.
         let mut parts = Vec::new(self.heap);
         for _ in 0..u32::split(self)? {
             parts.push(P::split(self)?)?;

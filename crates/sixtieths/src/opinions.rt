@@ -91,6 +91,7 @@ pub fn opinions(heap: Global, space: Space<'_>, work: &mut [u32]) -> Result<Vec<
     let ways = find_ways(heap, automaton)?;
     let visits = search(heap, space)?;
     let explored = explore(automaton.words(), KINDS, work);
+    // A loop: tried by `map` and `try_collect`, and that each is an opinion (`returns-clause-judged`) stayed open.
     let mut all = Vec::new(heap);
     for (location, has_way) in (0..automaton.locations()).zip(ways) {
         let asked = look_up(explored, location as usize);
