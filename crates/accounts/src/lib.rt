@@ -3,6 +3,5 @@
 
 pub mod bounds;
 pub mod names;
-mod pieces;
 pub mod runs;
 mod widths;

@@ -1,35 +1,32 @@
 // A run as text: a line for each wait and each step.
-ghost use Rattle.std.specs.Prelude.{◌≡◌, ℕ, min, List, length, IfOk, string_bytes, OnOk};
+ghost use Rattle.std.specs.Prelude.{◌≡◌, ℕ, min, List, ◌++◌, length, IfOk, string_bytes, codes, OnOk};
 ghost use Rattle.rows.specs.Views.{automaton_value};
 ghost use Rattle.clockworks.specs.Meaning.{Adds};
 ghost use Rattle.replay.specs.declared.moments.Moment as moments;
-ghost use Rattle.accounts.specs.Lines.{name_of, ClocksText, LineText, Lines, Account};
+ghost use Rattle.replay.specs.Fractions.{Lowest};
+ghost use Rattle.accounts.specs.Lines.{PartsText, name_of, MoveText, ClocksText, LineText, Lines, Account};
 ghost use Rattle.accounts.specs.Walks.{Walked};
 
 use crate::names::{Names, name_of};
-use crate::pieces::{clock_cell, move_cell, time_cell};
 use crate::widths::Widths;
 use columns::{Padded, count_columns};
+use replay::fractions::Fraction;
 use replay::moments::{Fault, Moment, Move};
 use replay::runs::{advance, begin};
 use rows::views::Automaton;
 use std::alloc::{AllocError, Global};
+use thiserror::Error;
 
 // Why a run is not told.
-#[derive(Clone, Copy)]
+#[derive(Clone, Copy, Debug, PartialEq, Eq, Error)]
 pub enum Untold {
-    Memory,
+    #[error("not enough memory")]
+    Memory(#[from(alloc)] AllocError),
+    #[error("the moves are no run of the automaton")]
     NoRun(Fault),
 }
 
-// By hand: thiserror's derive asks for a text of each variant, and no one reads one here: a caller takes the two for what it tells
-// itself.
-impl From<AllocError> for Untold {
-    fn from(_e: AllocError) -> Untold {
-        Untold::Memory
-    }
-}
-
+// By hand: thiserror's `#[from]` asks that `Fault` be an error itself, and it has no text.
 impl From<Fault> for Untold {
     fn from(fault: Fault) -> Untold {
         Untold::NoRun(fault)
@@ -61,16 +58,52 @@ impl<'a> Teller<'a> {
         name_of(self.names.positions, moment.location.0 as usize)
     }
 
+    // So many parts of a unit, in lowest terms.
+    fn fraction(&self, parts: u64) -> Fraction
+        ensures { Lowest parts self.now.denominator result.numerator result.denominator }
+    {
+        Fraction::lowest(parts, self.denominator)
+    }
+
+    // `wait 5/3` or `step 0`.
+    fn move_cell(&self, by: Move) -> Result<String, AllocError>
+        ensures { IfOk result (λ cell. MoveText self.now.denominator by (string_bytes cell)) }
+    {
+        match by {
+            Move::Wait(parts) => {
+                let delay = self.fraction(parts);
+                format!(in self.heap; "wait {delay}")
+            }
+            Move::Step(number) => format!(in self.heap; "step {number}"),
+        }
+    }
+
+    // `at 5/3`.
+    fn time_cell(&self, time: u64) -> Result<String, AllocError>
+        ensures { IfOk result (λ cell. (words : List ℕ) × PartsText self.now.denominator time words × (string_bytes cell ≡ codes "at " ++ words)) }
+    {
+        let time = self.fraction(time);
+        format!(in self.heap; "at {time}")
+    }
+
+    // `x = 1/3`.
+    fn clock_cell(&self, name: &str, value: u64) -> Result<String, AllocError>
+        ensures { IfOk result (λ cell. (words : List ℕ) × PartsText self.now.denominator value words × (string_bytes cell ≡ (name.now ++ codes " = ") ++ words)) }
+    {
+        let value = self.fraction(value);
+        format!(in self.heap; "{name} = {value}")
+    }
+
     // The widths of columns with one more line.
     fn widths_with(&self, widths: Widths, by: Move, after: &Moment) -> Result<Widths, AllocError> {
         let mut clocks = widths.clocks;
         let cells = self.names.clocks.iter().zip(after.clocks.iter());
         for (width, (name, value)) in clocks.iter_mut().zip(cells) {
-            let cell = clock_cell(self.heap, name.as_str(), self.denominator, *value)?;
+            let cell = self.clock_cell(name.as_str(), *value)?;
             *width = wider(*width, cell.as_str());
         }
-        let moved = move_cell(self.heap, self.denominator, by)?;
-        let time = time_cell(self.heap, self.denominator, after.time)?;
+        let moved = self.move_cell(by)?;
+        let time = self.time_cell(after.time)?;
         Ok(Widths {
             moves: wider(widths.moves, moved.as_str()),
             times: wider(widths.times, time.as_str()),
@@ -117,7 +150,7 @@ impl<'a> Teller<'a> {
     {
         let cells = moment.clocks.iter().zip(widths.clocks.iter());
         for (name, (value, width)) in self.names.clocks.iter().zip(cells) {
-            let cell = clock_cell(self.heap, name.as_str(), self.denominator, *value)?;
+            let cell = self.clock_cell(name.as_str(), *value)?;
             let cell = Padded {
                 text: cell.as_str(),
                 width: *width,
@@ -137,8 +170,8 @@ impl<'a> Teller<'a> {
     ) -> Result<String, AllocError>
         ensures { IfOk result (λ longer. (line : List ℕ) × LineText string_bytes self.now.names.clocks.now self.now.names.positions.now widths.now self.now.denominator by after.now line × Adds (string_bytes text) line (string_bytes longer)) }
     {
-        let moved = move_cell(self.heap, self.denominator, by)?;
-        let time = time_cell(self.heap, self.denominator, after.time)?;
+        let moved = self.move_cell(by)?;
+        let time = self.time_cell(after.time)?;
         let moved = Padded {
             text: moved.as_str(),
             width: widths.moves,
@@ -167,7 +200,8 @@ impl<'a> Teller<'a> {
     }
 }
 
-// The lines of a run, of which each move is gone through again.
+// The lines of a run, of which each move is gone through again. The denominator and the moves apart, as `replay` takes them: a caller
+// with no struct of both would have to make one.
 pub fn write_run(
     heap: Global,
     automaton: &Automaton,

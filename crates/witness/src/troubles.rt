@@ -40,7 +40,7 @@ impl From<AllocError> for Trouble {
 impl From<Untold> for Trouble {
     fn from(untold: Untold) -> Trouble {
         match untold {
-            Untold::Memory => Trouble::Problem(Problem::Memory),
+            Untold::Memory(_) => Trouble::Problem(Problem::Memory),
             Untold::NoRun(_) => Trouble::Astray,
         }
     }
