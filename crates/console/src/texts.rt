@@ -97,13 +97,13 @@ fn expect(rule: Rule, row: &[u32]) -> Expected {
 fn read_row(heap: Global, bytes: &[u8]) -> Result<Drawing, Problem>
     ensures { IfOk result IsClockwork }
 {
-    let row = numbers::read(heap, bytes).or_else(|mistake| -> Result<Vec<u32>, Problem> {
-        Err(explain(heap, bytes, mistake)?)
+    let row = numbers::read(heap, bytes).try_map_err(|mistake| -> Result<Problem, Problem> {
+        Ok(explain(heap, bytes, mistake)?)
     })?;
-    if let Err(refusal) = reader::read(row.as_slice()) {
+    reader::read(row.as_slice()).try_map_err(|refusal| -> Result<Problem, Problem> {
         let expected = expect(refusal.rule, row.as_slice());
-        return Err(refuse(heap, bytes, refusal.word, expected)?);
-    }
+        Ok(refuse(heap, bytes, refusal.word, expected)?)
+    })?;
     Ok(Drawing {
         row,
         clocks: Vec::new(heap),

@@ -49,6 +49,7 @@ pub fn find(
     let shown = match explored {
         Ok(table) => match witness_of(heap, automaton, &table, location, part) {
             Ok(witness) => Ok(witness),
+            // No `map_err`: `no_room` can fail itself, with an error of another type than what it answers.
             Err(failure) => Err(no_room(failure)?),
         },
         Err(_) => Ok(None),

@@ -33,11 +33,10 @@ fn find_position(
         return Err(Trouble::NoPosition(unknown.known));
     };
     let word = word.as_str();
-    // A match: `refuse` can fail itself, and `ok_or_else` takes what cannot.
-    match positions.find(word) {
-        Some(position) => Ok(Location(u32::try_from(position).unwrap_or(u32::MAX))),
-        None => Err(Trouble::from(Problem::Position(positions.refuse(heap, word)?))),
-    }
+    let position = positions.find(word).try_ok_or_else(|| -> Result<Trouble, Trouble> {
+        Ok(Trouble::from(Problem::Position(positions.refuse(heap, word)?)))
+    })?;
+    Ok(Location(u32::try_from(position).unwrap_or(u32::MAX)))
 }
 
 // A name for each of so many: what it is called, or some letters and its number.

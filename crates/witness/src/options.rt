@@ -44,13 +44,9 @@ pub fn parse(heap: Global, mut words: Args) -> Result<Request<Options>, Mistake>
             "--rows" => form = Form::Row,
             "--position" => position = Some(value(&mut words, "--position", &position)?),
             "--within" => {
-                let part = value(&mut words, "--within", &within)?;
-                within = Some(number("--within", part)?);
+                within = Some(number("--within", value(&mut words, "--within", &within)?)?);
             }
-            "--kinds" => {
-                let most = value(&mut words, "--kinds", &kinds)?;
-                kinds = Some(number("--kinds", most)?);
-            }
+            "--kinds" => kinds = Some(number("--kinds", value(&mut words, "--kinds", &kinds)?)?),
             name if is_option(name) => return Err(refuse(heap, &OPTIONS, word)),
             _ => set_file(&mut file, word)?,
         }
