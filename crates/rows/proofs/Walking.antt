@@ -205,7 +205,6 @@ enough_fuel n p (suc f) (suc g) (w ∷ ws) h i =
     go (some x) shorter same = ap (prepend x.0) (same x.1 (shorter x.0 x.1 refl))
 
 module _ (n p : ℕ) where
-
   pub edges_more : (ws rest : List ℕ) (e : Edge)
       → 0 < length ws
       → parse_edge n p ws ≡ some (e, rest)
