@@ -7,6 +7,7 @@ pub const ABOUT: About = About {
     help: HELP,
 };
 
+// One constant, with the example that the other program has too: apart, the parts would be joined when they are printed.
 const HELP: &str = "\
 Reads a clockwork, which is a timed automaton, and shows it.
 
