@@ -26,7 +26,8 @@ pub enum Untold {
     NoRun(Fault),
 }
 
-// By hand: thiserror's `#[from]` asks that `Fault` be an error itself, and it has no text.
+// By hand, since by thiserror it would be no plainer: `#[from]` asks that `Fault` be an error itself, which would have a text for each of its
+// variants that no user is shown, for this one function.
 impl From<Fault> for Untold {
     fn from(fault: Fault) -> Untold {
         Untold::NoRun(fault)
@@ -200,8 +201,8 @@ impl<'a> Teller<'a> {
     }
 }
 
-// The lines of a run, of which each move is gone through again. The denominator and the moves apart, as `replay` takes them: a caller
-// with no struct of both would have to make one.
+// The lines of a run, of which each move is gone through again. The denominator and the moves apart, as `replay` takes them: a struct would be no
+// plainer, since the one that has them, `Run`, is of `realise`, on which this crate does not stand.
 pub fn write_run(
     heap: Global,
     automaton: &Automaton,

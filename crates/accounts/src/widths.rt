@@ -3,7 +3,8 @@ ghost use Rattle.std.specs.Prelude.{◌≡◌};
 
 use rows::limits::CLOCKS;
 
-// How wide each column of a run is, in characters.
+// How wide each column of a run is, in characters. An array of the most clocks that there may be, since a vector would be no plainer: widths are
+// copied and handed on by value, and to make a vector could fail.
 #[derive(Clone, Copy, Default)]
 pub struct Widths {
     pub moves: usize,

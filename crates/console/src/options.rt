@@ -12,7 +12,7 @@ use std::env::Args;
 use std::fmt;
 
 // Why a call cannot be understood.
-#[derive(Drop)]
+#[derive(Debug, Drop)]
 pub enum Mistake {
     Memory,
     Unknown {

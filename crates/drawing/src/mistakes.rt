@@ -11,7 +11,7 @@ pub enum Mistake {
     Row(Place),
 }
 
-// By hand: thiserror wants a message of each variant, and a mistake has none before `explain` puts it into words.
+// By hand, this one and the next: thiserror wants a message of each variant, and a mistake has none before `explain` puts it into words.
 impl From<AllocError> for Mistake {
     fn from(_e: AllocError) -> Mistake {
         Mistake::Memory

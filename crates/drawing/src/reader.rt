@@ -258,7 +258,7 @@ impl<'a> Reader<'a> {
 }
 
 // A mistake in a line of the text, if there is one, however many numbers its parts have. These are not kept: a text with too many
-// must not take more memory than others. Heap, names and text by themselves, here and below: a struct of the three would be made at one
+// must not take more memory than others (a rule of the project, 4 MiB for all buffers). Heap, names and text by themselves, here and below: a struct of the three would be made at one
 // call, and taken apart in each function.
 fn check_lines(heap: Global, names: &Names, text: &str) -> Result<(), Mistake> {
     for (index, line) in text.lines().enumerate() {

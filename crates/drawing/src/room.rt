@@ -23,7 +23,7 @@ impl Room {
     }
 
     // Room for any parts: a text is only gone through for mistakes. The largest number, and no case without a limit: no text has so many
-    // parts, and what a part takes stays one sum.
+    // parts, and what a part takes stays one difference.
     pub fn boundless() -> Room
         ensures { result.left + 1 ≡ 2 ^ 64 }
     {

@@ -32,6 +32,7 @@ fn carry_out(rt: &HostRuntime, options: &Options) -> Result<(), Problem> {
 
 // Where something is wrong, the reason is told.
 fn main(rt: HostRuntime) -> io::Result<ExitCode> {
+    // The words are read and parsed here, and not in `begin`, which says why.
     let words = match env::args(&rt) {
         Ok(words) => words,
         Err(error) => {

@@ -96,8 +96,8 @@ fn is_small(denominator: u64, waits: usize, arrival: Arrival) -> bool
     denominator as u128 <= (waits as u128 + 1) * part_of(arrival) as u128
 }
 
-// The denominator of the times along a way, and its moves. A pair: a struct of both would be taken apart by its one caller, since `replay`
-// and `Run` have the two apart.
+// The denominator of the times along a way, and its moves. A pair, since a struct of both would be no plainer: its one caller would take it apart,
+// for `replay` and `Run` have the two apart.
 fn moves_along(
     heap: Global,
     automaton: &Automaton,
@@ -124,10 +124,10 @@ fn end_of(
     ensures { IfOk result (λ end. Ends (automaton_value automaton.now) location.0 arrival denominator moves.now end) }
 {
     let end = replay(automaton, denominator, moves)?;
-    if end.location != location || !in_time(arrival, denominator, end.time) {
-        return Err(Failure::Astray);
-    }
-    if !is_small(denominator, count_waits(moves), arrival) {
+    if end.location != location
+        || !in_time(arrival, denominator, end.time)
+        || !is_small(denominator, count_waits(moves), arrival)
+    {
         return Err(Failure::Astray);
     }
     Ok(end)

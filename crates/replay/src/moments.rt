@@ -20,7 +20,7 @@ pub struct Moment {
     pub time: u64,
 }
 
-// Why a move, or a list of them, is refused. No text of it: callers tell one from another, and no user is shown it.
+// Why a move, or a list of them, is refused. With a text it would be no plainer: callers tell one from another, and no user is shown it.
 #[derive(Clone, Copy, Debug, PartialEq, Eq)]
 pub enum Fault {
     // the denominator is 0

@@ -117,7 +117,7 @@ pub fn advance(
 }
 
 // Goes through all moves, from the start. What is accepted is a run to that location at that time; what is refused is none,
-// unless a number has no room or the denominator is 0. Denominator and moves are no struct: `sixtieths` has one denominator for all its runs,
+// unless a number has no room or the denominator is 0. Denominator and moves as a struct would be no plainer: `sixtieths` has one denominator for all its runs,
 // and `realise` finds the denominator first, so each would make the struct for this call alone.
 pub fn replay(automaton: &Automaton, denominator: u64, moves: &[Move]) -> Result<Moment, Fault>
     ensures { Replays (automaton_value automaton.now) denominator moves.now result }

@@ -73,10 +73,10 @@ impl<'a> Reporter<'a> {
         let Some(space) = Space::new(automaton) else {
             return Ok(None);
         };
-        match opinions(rt.alloc(), space, self.work.as_mut_slice()) {
-            Ok(all) => Ok(Some(all)),
-            Err(fault) => fail(rt, io::ErrorKind::Other, format_args!("sixtieths: {fault}")),
-        }
+        let all = opinions(rt.alloc(), space, self.work.as_mut_slice()).try_map_err(|fault| {
+            fail(rt, io::ErrorKind::Other, format_args!("sixtieths: {fault}"))
+        })?;
+        Ok(Some(all))
     }
 
     // One line with both answers for a position.

@@ -86,7 +86,7 @@ fn bound_on(region: &Region, i: usize, j: usize, frame: Frame) -> Bound
 
 // The bounds that the states of a region keep, as sharp as they can be. A clock beyond the top is bounded from below only, so
 // that it is unbounded less any other. None where there are too many clocks, the top is too high, or no state shows the
-// region. Clocks and top, and no `Frame`: that would ask more of callers, for a `Frame` has few clocks and a low top.
+// region. Clocks and top, and no `Frame`, by a rule of the project: a type may not ask more of callers, and a `Frame` has few clocks and a low top.
 pub fn of_region(region: &Region, clocks: usize, top: u32) -> Option<Square>
     ensures { Squared clocks top (region_value region.now) result }
 {

@@ -12,7 +12,7 @@ use std::alloc::Global;
 use witnesses::answers::{Witness, witness_of};
 
 // The numbers of a run have no place.
-#[derive(Clone, Copy)]
+#[derive(Clone, Copy, Debug)]
 pub struct NoRoom;
 
 // The answer, and the run to show beside it, if there is one.

@@ -28,10 +28,9 @@ fn find_position(
     options: &Options,
     positions: Positions<'_>,
 ) -> Result<Location, Trouble> {
-    let Some(word) = &options.position else {
-        let unknown = positions.refuse(heap, "")?;
-        return Err(Trouble::NoPosition(unknown.known));
-    };
+    let word = options.position.as_ref().try_ok_or_else(|| -> Result<Trouble, Trouble> {
+        Ok(Trouble::NoPosition(positions.refuse(heap, "")?.known))
+    })?;
     let word = word.as_str();
     let position = positions.find(word).try_ok_or_else(|| -> Result<Trouble, Trouble> {
         Ok(Trouble::from(Problem::Position(positions.refuse(heap, word)?)))
@@ -93,6 +92,7 @@ fn carry_out(rt: &HostRuntime, options: &Options) -> Result<(), Trouble> {
 
 // Where something is wrong, the reason is told.
 fn main(rt: HostRuntime) -> io::Result<ExitCode> {
+    // The words are read and parsed here, and not in `begin`, which says why.
     let words = match env::args(&rt) {
         Ok(words) => words,
         Err(error) => {

@@ -5,7 +5,7 @@ use console::messages::{Problem, Report};
 use std::alloc::AllocError;
 use std::fmt;
 
-#[derive(Drop)]
+#[derive(Debug, Drop)]
 pub enum Trouble {
     Problem(Problem),
     // with the names that there are
