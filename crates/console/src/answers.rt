@@ -53,7 +53,7 @@ impl<'a> fmt::Display for Line<'a> {
     }
 }
 
-// What an answer says. The patch in docs/ calls it.
+// What an answer says.
 pub fn write_answer(text: &mut String, answer: Answer) -> Result<(), AllocError>
     ensures { OnOk result (AddsText text.old (answer_text answer.kinds answer.asked) text.new) }
 {

@@ -32,7 +32,7 @@ fn find_name(names: &[String], word: &str) -> Option<usize>
     names.iter().position(|name| name.as_str() == word)
 }
 
-// The name of a position: its number where it has no name. The patch in docs/ calls it.
+// The name of a position: its number where it has no name.
 pub fn name_of(heap: Global, names: &[String], position: usize) -> Result<String, AllocError>
     ensures { IfOk result (λ name. string_bytes name ≡ name_text (map string_bytes names.now) position) }
 {

@@ -1,10 +1,14 @@
 // The options of a call: what to read, and what to print of it.
-use console::options::{Mistake, Request, is_option, set, set_file};
+use console::options::{Mistake, Request, is_option, number, refuse, set, set_file, value};
 use console::texts::{Form, Text};
+use std::alloc::Global;
 use std::env::Args;
 
 #[derive(Clone, Copy)]
 pub enum Output {
+    // with what it says of the clockwork
+    Help,
+    Answers,
     Summary,
     Row,
     Drawing,
@@ -14,7 +18,22 @@ pub enum Output {
 pub struct Options {
     pub text: Text,
     pub output: Output,
+    // As many as fit where none.
+    pub kinds: Option<u32>,
+    // All where none.
+    pub position: Option<String>,
 }
+
+const OPTIONS: [&str; 8] = [
+    "--position",
+    "--kinds",
+    "--rows",
+    "--print-rows",
+    "--print-drawing",
+    "--summary",
+    "--help",
+    "--version",
+];
 
 // What to print: only one thing may be asked for.
 fn set_output(output: &mut Option<Output>, asked: Output, word: String) -> Result<(), Mistake> {
@@ -23,28 +42,52 @@ fn set_output(output: &mut Option<Output>, asked: Output, word: String) -> Resul
 
 // The words of the call, of which the first is the program's own name. clap is not used: it words its messages and its help in its own way,
 // and what the program prints is to stay.
-pub fn parse(words: Args) -> Result<Request<Options>, Mistake> {
+pub fn parse(heap: Global, mut words: Args) -> Result<Request<Options>, Mistake> {
+    // Both are only noted, and no value is beside them: a mistake in a later word is told first, and the version before the help.
+    let mut help = false;
+    let mut version = false;
     let mut form = Form::Drawing;
     let mut output = None;
+    let mut position = None;
+    let mut kinds = None;
     let mut file = None;
-    for word in words.skip(1) {
+    words.next();
+    while let Some(word) = words.next() {
         match word.as_str() {
-            "--help" | "-h" => return Ok(Request::Help),
-            "--version" | "-V" => return Ok(Request::Version),
+            "--help" | "-h" => help = true,
+            "--version" | "-V" => version = true,
             "--rows" => form = Form::Row,
+            "--summary" => set_output(&mut output, Output::Summary, word)?,
             "--print-rows" => set_output(&mut output, Output::Row, word)?,
             "--print-drawing" => set_output(&mut output, Output::Drawing, word)?,
-            name if is_option(name) => {
-                return Err(Mistake::Unknown {
-                    word,
-                    nearest: None,
-                });
-            }
+            "--position" => position = Some(value(&mut words, "--position", &position)?),
+            "--kinds" => kinds = Some(number("--kinds", value(&mut words, "--kinds", &kinds)?)?),
+            name if is_option(name) => return Err(refuse(heap, &OPTIONS, word)),
             _ => set_file(&mut file, word)?,
         }
     }
+    // Only the answers have a use for these.
+    if output.is_some() && kinds.is_some() {
+        return Err(Mistake::Misplaced("--kinds"));
+    }
+    if output.is_some() && position.is_some() {
+        return Err(Mistake::Misplaced("--position"));
+    }
+    if version {
+        return Ok(Request::Version);
+    }
+    if help && file.is_none() {
+        return Ok(Request::Help);
+    }
+    let output = if help {
+        Output::Help
+    } else {
+        output.unwrap_or(Output::Answers)
+    };
     Ok(Request::Show(Options {
         text: Text { form, file },
-        output: output.unwrap_or(Output::Summary),
+        output,
+        kinds,
+        position,
     }))
 }

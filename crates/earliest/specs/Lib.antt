@@ -1,0 +1,2 @@
+-- What the promises of the program's functions cite.
+pub mod Listed
