@@ -4,9 +4,9 @@ use Rattle.search.specs.Answering.{needed}
 use Rattle.console.specs.declared.messages.Problem.{Problem}
 use Rattle.console.specs.declared.messages.Problem.TheVariants.{Memory, Unreadable, Unwritable, TooLarge, Drawing, Unfit, Row, Position, Kinds}
 
--- 3 MiB of words of 4 bytes
+-- 3.25 MiB of words of 4 bytes
 abbrev pub Suffices : ℕ → ℕ → Type 0
-Suffices row kinds = needed row kinds ≤ 786432
+Suffices row kinds = needed row kinds ≤ 851968
 
 -- r is the greatest number of kinds that the words suffice for; 0 where they suffice for none
 pub record KindsFit (row r : ℕ) : Type 0 where

@@ -12,7 +12,7 @@ pub const ALL_BYTES: usize = 4 * 1024 * 1024;
 pub const TEXT_BYTES: usize = 256 * 1024;
 
 // Room for the text, its row, the names and the output. What reading a drawing takes is given back before the search begins.
-const OTHER_BYTES: usize = 1024 * 1024;
+const OTHER_BYTES: usize = 768 * 1024;
 
 const BYTES_OF_A_WORD: usize = 4;
 

@@ -31,13 +31,19 @@ pub struct Drawing {
     pub positions: Vec<String>,
 }
 
-// The text, without the mark that some editors put in front of it.
+// The text without the byte order mark that some editors put in front of it.
+fn without_mark(bytes: &[u8]) -> &[u8] {
+    match bytes {
+        [0xEF, 0xBB, 0xBF, text @ ..] => text,
+        _ => bytes,
+    }
+}
+
 fn as_text(bytes: &[u8]) -> Result<&str, Refusal> {
-    let text = std::str::from_utf8(bytes).map_err(|error| {
+    std::str::from_utf8(bytes).map_err(|error| {
         let place = Place::after(bytes, error.valid_up_to());
         Refusal::wrong(place, Found::Bytes, Expected::Utf8)
-    })?;
-    Ok(text.strip_prefix('\u{feff}').unwrap_or(text))
+    })
 }
 
 fn read_parts(heap: Global, text: &str) -> Result<(Names, Clockwork), Mistake> {
@@ -89,6 +95,8 @@ fn finish(heap: Global, end: Place, names: Names, clockwork: &Clockwork) -> Resu
 pub fn read(heap: Global, bytes: &[u8]) -> Result<Drawing, Refusal>
     ensures { IfOk result (λ d. Draws d.row.items (vec_len d.clocks) (vec_len d.positions)) }
 {
+    // no place counts the mark
+    let bytes = without_mark(bytes);
     let text = as_text(bytes)?;
     let end = Place::after(bytes, bytes.len());
     let (names, clockwork) = read_parts(heap, text).map_err(|mistake| {
