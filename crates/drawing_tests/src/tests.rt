@@ -20,7 +20,7 @@ const DENSE_ROW: [u32; 34] = [
 ];
 
 // A text, and what its refusal says.
-const REFUSED: [(&str, &str); 10] = [
+const REFUSED: [(&str, &str); 23] = [
     (
         "",
         "1:1: found the end of the text, expected a line `clocks` with a name for each clock",
@@ -61,10 +61,79 @@ const REFUSED: [(&str, &str); 10] = [
         "# é\nclocks é ≤",
         "2:10: found the character '≤', expected a name, a number or one of : , -> <= < >= > = #",
     ),
+    (
+        "≤",
+        "1:1: found the character '≤', expected a name, a number or one of : , -> <= < >= > = #",
+    ),
+    (
+        "clocks x²\nposition a",
+        "1:9: found the character '²', expected a name, a number or one of : , -> <= < >= > = #",
+    ),
+    (
+        "clock x",
+        "1:1: found `clock`, expected `clocks`, `position` or `step`",
+    ),
+    (
+        "clocks x",
+        "1:9: found the end of the text, expected a line `position` for each position",
+    ),
+    (
+        "clocks x\nposition 1",
+        "2:10: found `1`, expected a name for a position",
+    ),
+    (
+        "clocks x\nposition step",
+        "2:10: found `step`, expected a name for a position",
+    ),
+    (
+        "clocks x\nposition a\nposition a",
+        "3:10: found `a`, expected a name that no position has yet",
+    ),
+    (
+        "clocks x\nposition a b",
+        "2:12: found `b`, expected `:` or the end of the line",
+    ),
+    (
+        "clocks x\nposition a: x < 1 x",
+        "2:19: found `x`, expected `,` or the end of the line",
+    ),
+    (
+        "clocks x\nposition a\nstep a a",
+        "3:8: found `a`, expected `->`",
+    ),
+    (
+        "clocks x\nposition a\nstep a -> a x",
+        "3:13: found `x`, expected `when`, `reset` or the end of the line",
+    ),
+    (
+        "clocks x\nposition a\nstep a -> a when x 1",
+        "3:20: found `1`, expected `<=`, `<`, `>=`, `>` or `=`",
+    ),
+    (
+        "clocks x\nposition a\nstep a -> a when x < 1 x",
+        "3:24: found `x`, expected `,`, `reset` or the end of the line",
+    ),
+];
+
+// Texts that have one row each with a plainer one: tabs, a byte order mark, and a name that begins with `_`.
+const SAME: [(&str, &str); 3] = [
+    (
+        "clocks\tx\n\tposition\ta:\tx <\t1",
+        "clocks x\nposition a: x < 1",
+    ),
+    ("\u{feff}clocks x\nposition a", "clocks x\nposition a"),
+    (
+        "clocks _x\nposition _: _x < 1",
+        "clocks x\nposition a: x < 1",
+    ),
 ];
 
 fn says(rt: &impl Abort, heap: Global, text: &str, message: &str) -> Result<(), Fail> {
-    match read(heap, text.as_bytes()) {
+    says_of_bytes(rt, heap, text.as_bytes(), message)
+}
+
+fn says_of_bytes(rt: &impl Abort, heap: Global, bytes: &[u8], message: &str) -> Result<(), Fail> {
+    match read(heap, bytes) {
         Ok(_) => Err(Fail::new("it was read")),
         Err(refusal) => {
             assert!(rt; refusal.to_string(heap)?.as_str() == message, "{}", message);
@@ -87,6 +156,52 @@ fn reads_drawings(rt: HostRuntime) -> Result<(), Fail> {
     let dense = read(rt.alloc(), DENSE.as_bytes())?;
     assert!(rt; dense.row.as_slice() == DENSE_ROW.as_slice());
     Ok(())
+}
+
+#[test]
+fn reads_the_same(rt: HostRuntime) -> Result<(), Fail> {
+    for (text, plain) in SAME {
+        let drawing = read(rt.alloc(), text.as_bytes())?;
+        let other = read(rt.alloc(), plain.as_bytes())?;
+        assert!(rt; drawing.row.as_slice() == other.row.as_slice(), "{}", text);
+    }
+    Ok(())
+}
+
+#[test]
+fn refuses_bytes(rt: HostRuntime) -> Result<(), Fail> {
+    says_of_bytes(
+        &rt,
+        rt.alloc(),
+        b"clocks x\nposition \xff",
+        "2:10: found bytes that are not text, expected text in UTF-8",
+    )
+}
+
+// The row of as many positions as there may be.
+fn most_positions(heap: Global) -> Result<Vec<u32>, Fail> {
+    let mut row = Vec::new(heap);
+    row.push(1)?;
+    row.push(256)?;
+    for _ in 0..256 {
+        row.push(0)?;
+    }
+    Ok(row)
+}
+
+#[test]
+fn reads_the_most_positions(rt: HostRuntime) -> Result<(), Fail> {
+    let heap = rt.alloc();
+    let row = most_positions(heap)?;
+    comes_back(&rt, heap, row.as_slice())?;
+    let text = draw(heap, row.as_slice())?;
+    let text = repeat(heap, text.as_str(), "position q", 1, "")?;
+    says(
+        &rt,
+        heap,
+        text.as_str(),
+        "258:10: found `q`, expected at most 256 positions",
+    )
 }
 
 #[test]
@@ -207,6 +322,11 @@ fn rows_come_back(rt: HostRuntime) -> Result<(), Fail> {
     comes_back(&rt, rt.alloc(), &BELL_ROW)?;
     comes_back(&rt, rt.alloc(), &DENSE_ROW)?;
     comes_back(&rt, rt.alloc(), &[8, 1, 0, 0, 0, 0, 3, 7, 7, 0])?;
+    comes_back(&rt, rt.alloc(), &[1, 1, 1, 0, 0, 10_000])?;
+    assert_eq!(rt;
+        draw(rt.alloc(), &[1, 1, 0, 0, 1, 0, 0]).err(),
+        Some(Unfit::Position)
+    );
     assert_eq!(rt;
         draw(rt.alloc(), &[1, 1, 1, 0, 2, 3]).err(),
         Some(Unfit::Lower)
