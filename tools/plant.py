@@ -380,10 +380,13 @@ class Bench:
 
     def noticed(self, edit):
         """By what an edit is noticed, and where."""
-        kind, why = self.told(edit, "check") or ("not tried", "")
+        kind, why = self.told(edit, "check") or (None, "")
+        runs = self.told(edit, "runs")
+        if kind is None:
+            return ("not tried", "") if not runs else (f"not checked; {runs[0]} by the runs", runs[1])
         if kind != PROVED:
             return f"proof: {kind}" if kind in (REFUSED, LIMITED) else kind, why
-        kind, why = self.told(edit, "runs") or ("proved, not run", "")
+        kind, why = runs or ("proved, not run", "")
         return {SEEN: "a test only", UNSEEN: "**neither**"}.get(kind, kind), why
 
     def table(self):
