@@ -12,13 +12,16 @@ use Rattle.c_interface.specs.declared.exploring.Outcome.TheVariants.{Explored, M
 use Rattle.c_interface.specs.declared.replies.Reply.{Reply}
 use Rattle.c_interface.specs.Replies.{reply_of}
 
--- different outcomes are different numbers
 abbrev pub exploration_of : Outcome → Exploration
 exploration_of (Explored positions kinds) = record { outcome = 0; positions = positions; kinds = kinds }
 exploration_of (Many positions) = record { outcome = 4; positions = positions; kinds = 0 }
 exploration_of Few = record { outcome = 5; positions = 0; kinds = 0 }
 exploration_of NoWork = record { outcome = 6; positions = 0; kinds = 0 }
 exploration_of (FewReplies positions) = record { outcome = 8; positions = positions; kinds = 0 }
+
+-- different outcomes are different numbers
+abbrev pub OneExploration : Type 0
+OneExploration = (x y : Outcome) → exploration_of x ≡ exploration_of y → x ≡ y
 
 -- the reply is an answer in time that is right for the position
 abbrev pub ReplyIs : Automaton → ℕ → Reply → Type 0

@@ -5,7 +5,6 @@ use Rattle.clocks.specs.declared.answers.Asked.TheVariants.{At, After, Never, No
 use Rattle.clocks.specs.Asked.{AskedPost}
 use Rattle.c_interface.specs.declared.replies.Reply.{Reply}
 
--- different answers are different numbers
 abbrev pub reply_of : Asked → Reply
 reply_of (At n) = record { kind = 1; time = n }
 reply_of (After n) = record { kind = 2; time = n }
@@ -14,6 +13,10 @@ reply_of Many = record { kind = 4; time = 0 }
 reply_of Few = record { kind = 5; time = 0 }
 reply_of NoWork = record { kind = 6; time = 0 }
 reply_of NoPlace = record { kind = 7; time = 0 }
+
+-- different answers are different replies
+abbrev pub OneReply : Type 0
+OneReply = (x y : Asked) → reply_of x ≡ reply_of y → x ≡ y
 
 -- the reply is that of an answer, which keeps the promise of `ask`
 abbrev pub RepliedTo : List ℕ → ℕ → ℕ → ℕ → Reply → Type 0

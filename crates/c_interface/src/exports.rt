@@ -1,8 +1,8 @@
 // What C calls. A slice crosses as a pointer and a length.
 ghost use Rattle.std.specs.Prelude.{◌≡◌, length};
 ghost use Rattle.clocks.specs.Asked.{OneAnswer};
-ghost use Rattle.c_interface.specs.Exploring.{AllReplied};
-ghost use Rattle.c_interface.specs.Replies.{RepliedTo};
+ghost use Rattle.c_interface.specs.Exploring.{AllReplied, OneExploration};
+ghost use Rattle.c_interface.specs.Replies.{RepliedTo, OneReply};
 ghost use Rattle.c_interface.specs.Words.{WordsAre};
 
 use crate::exploring::{Exploration, settle};
@@ -28,6 +28,7 @@ pub extern "C" fn pushkhami_ask(
 ) -> Reply
     ensures replied { RepliedTo clockwork.now position kinds (length work.old) result }
     ensures one_answer { OneAnswer }
+    ensures one_reply { OneReply }
 {
     Reply::from(ask(clockwork, position, kinds, work))
 }
@@ -40,7 +41,8 @@ pub extern "C" fn pushkhami_explore(
     work: &mut [u32],
     replies: &mut [Reply],
 ) -> Exploration
-    ensures { AllReplied clockwork.now kinds (length work.old) replies.old result replies.new }
+    ensures replied { AllReplied clockwork.now kinds (length work.old) replies.old result replies.new }
+    ensures one_exploration { OneExploration }
 {
     Exploration::from(settle(explore(clockwork, kinds, work), replies))
 }
