@@ -1,2 +1,4 @@
+pub mod Ending
 pub mod Near
+pub mod Rising
 pub mod Waits

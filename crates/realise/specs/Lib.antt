@@ -1,3 +1,5 @@
--- Runs along a way.
+-- Runs along a path.
+pub mod Ends
 pub mod Failures
+pub mod Places
 pub mod Runs

@@ -1,8 +1,9 @@
-// A way from region to region made into a run: waits and steps, with times that are exact fractions.
+// A path of edges made into a run: waits and steps, with times that are exact fractions.
 #![tactic(auto)]
 
 pub mod arrivals;
-mod instants;
-mod orders;
+pub mod ends;
+mod paths;
+mod places;
+mod points;
 pub mod runs;
-pub mod ways;

@@ -1,13 +1,13 @@
-// Runs along a way: the instants get fractions, and what comes out is gone through again before it is given away.
+// Runs along a path: the points in time get fractions, and what comes out is gone through again before it is given away.
 ghost use Rattle.std.specs.Prelude.{◌≡◌, ◌+◌, ◌*◌, ◌≤◌, IfOk};
 ghost use Rattle.rows.specs.Views.{automaton_value};
 ghost use Rattle.replay.specs.Checks.{Decides};
 ghost use Rattle.realise.specs.Runs.{part_of, wait_count, Ends, Realised};
 
 use crate::arrivals::{Arrival, in_time, part_of};
-use crate::instants::{Event, Instant, Plan, plan_along};
-use crate::ways::Leg;
-use cells::tops::frame_of;
+use crate::paths::demands_along;
+use crate::places::Places;
+use crate::points::{Instant, least_points};
 use replay::moments::{Fault, Moment, Move};
 use replay::runs::replay;
 use rows::edges::Location;
@@ -30,11 +30,11 @@ pub enum Failure {
     Memory(#[from(alloc)] AllocError),
     #[error("a number is too large for its type")]
     NoRoom,
-    #[error("the way is none of the automaton, or does not lead to that location at that time")]
+    #[error("the path is none of the automaton, or does not lead to that location at that time")]
     Astray,
 }
 
-// A way of the automaton is one all of whose moves are allowed.
+// A path of the automaton is one all of whose moves are allowed.
 impl From<Fault> for Failure {
     ghost use Rattle.realise.specs.Failures.{failure_of};
 
@@ -48,33 +48,32 @@ impl From<Fault> for Failure {
     }
 }
 
-// The number of d-ths of an instant.
-fn parts(instant: Instant, places: &[u64], denominator: u64) -> Option<u64> {
-    let place = *places.get(instant.fraction)?;
-    instant.whole.checked_mul(denominator)?.checked_add(place)
+// The number of d-ths of an instant: of the units only the place counts.
+fn parts(instant: Instant, places: &Places, denominator: u64) -> Option<u64> {
+    let whole = u64::try_from(instant.whole).ok()?;
+    whole
+        .checked_mul(denominator)?
+        .checked_add(places.place(instant.units) as u64)
 }
 
-// The moves that the events stand for. A wait that takes no time is left out.
+// The edges, each at its point, and the waits between them. A wait that takes no time is left out.
 fn moves_of(
     heap: Global,
-    events: &[Event],
-    places: &[u64],
+    edges: &[u32],
+    points: &[Instant],
+    places: &Places,
     denominator: u64,
 ) -> Result<Vec<Move>, Failure> {
     let mut moves = Vec::new(heap);
     let mut now = 0u64;
-    for event in events {
-        match *event {
-            Event::Edge(number) => moves.push(Move::Step(number))?,
-            Event::Until(instant) => {
-                let time = parts(instant, places, denominator).ok_or(Failure::NoRoom)?;
-                let delay = time.checked_sub(now).ok_or(Failure::Astray)?;
-                if delay > 0 {
-                    moves.push(Move::Wait(delay))?;
-                }
-                now = time;
-            }
+    for (number, instant) in edges.iter().zip(points.iter().skip(1)) {
+        let time = parts(*instant, places, denominator).ok_or(Failure::NoRoom)?;
+        let delay = time.checked_sub(now).ok_or(Failure::Astray)?;
+        if delay > 0 {
+            moves.push(Move::Wait(delay))?;
         }
+        moves.push(Move::Step(*number))?;
+        now = time;
     }
     Ok(moves)
 }
@@ -96,20 +95,22 @@ fn is_small(denominator: u64, waits: usize, arrival: Arrival) -> bool
     denominator as u128 <= (waits as u128 + 1) * part_of(arrival) as u128
 }
 
-// The denominator of the times along a way, and its moves. A pair, since a struct of both would be no plainer: its one caller would take it apart,
-// for `replay` and `Run` have the two apart.
+// The denominator of the times along a path, and its moves: an edge is taken as early as can be. A pair, since a struct of both would be no plainer: its
+// one caller would take it apart, for `replay` and `Run` have the two apart.
 fn moves_along(
     heap: Global,
     automaton: &Automaton,
-    way: &[Leg],
+    edges: &[u32],
     arrival: Arrival,
 ) -> Result<(u64, Vec<Move>), Failure> {
-    let Plan { events, order } = plan_along(heap, frame_of(*automaton), way)?;
-    let denominator = (order.len() as u64)
+    let demands = demands_along(heap, automaton, edges)?;
+    let count = edges.len().checked_add(1).ok_or(Failure::NoRoom)?;
+    let points = least_points(heap, count, demands.as_slice())?;
+    let places = Places::of(points.iter().map(|point| point.units).collect(heap)?);
+    let denominator = (places.len() as u64)
         .checked_mul(part_of(arrival) as u64)
         .ok_or(Failure::NoRoom)?;
-    let places = order.places(heap)?;
-    let moves = moves_of(heap, events.as_slice(), places.as_slice(), denominator)?;
+    let moves = moves_of(heap, edges, points.as_slice(), &places, denominator)?;
     Ok((denominator, moves))
 }
 
@@ -133,17 +134,18 @@ fn end_of(
     Ok(end)
 }
 
-// A run along a way that ends at the location, in time. It is given only where going through it again accepts it.
-pub fn realise(
+// A run along a path of edges, each by its number in the order of the row, that ends at the location, in time. It is given only where going through
+// it again accepts it.
+pub fn realise_path(
     heap: Global,
     automaton: &Automaton,
-    way: &[Leg],
+    edges: &[u32],
     location: Location,
     arrival: Arrival,
 ) -> Result<Run, Failure>
     ensures { IfOk result (λ run. Realised (automaton_value automaton.now) location.0 arrival run) }
 {
-    let (denominator, moves) = moves_along(heap, automaton, way, arrival)?;
+    let (denominator, moves) = moves_along(heap, automaton, edges, arrival)?;
     let end = end_of(automaton, denominator, moves.as_slice(), location, arrival)?;
     Ok(Run {
         denominator,

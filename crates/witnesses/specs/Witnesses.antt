@@ -1,15 +1,19 @@
--- What a witness is: a run to the location at the time that is told, and the region that is come to first.
+-- What a witness is: a run to the location at the time that is told, and the region in which it ends.
 use Rattle.std.specs.Prelude.{◌≡◌, ℕ, List, Some, None, Option}
 use Rattle.automata.specs.Automata as automata
+use Rattle.automata.specs.Regions.{top}
+use Rattle.automata.specs.Runs.{State}
 use Rattle.automata.specs.Statements as theory
+use Rattle.regions.specs.Alike.{ShowsState}
+use Rattle.regions.specs.Cells.{Normal}
 use Rattle.rows.specs.declared.views.Automaton.{Automaton}
 use Rattle.rows.specs.Views.{automaton_value}
 use Rattle.cells.specs.Meaning.{region_value}
+use Rattle.replay.specs.Meaning.{Tells}
 use Rattle.search.specs.declared.answers.Answer.{Answer}
 use Rattle.search.specs.declared.answers.Answer.TheVariants.{At, After, Never}
 use Rattle.search.specs.declared.answers.Table.{Table}
 use Rattle.search.specs.Answering.{AnswerIs, TableIs}
-use Rattle.search.specs.Least.{region_at, LeastPost}
 use Rattle.realise.specs.declared.arrivals.Arrival.{Arrival}
 use Rattle.realise.specs.declared.arrivals.Arrival.TheVariants as arrival
 use Rattle.realise.specs.Runs.{Realised}
@@ -21,19 +25,23 @@ arrival_told (At n) part = Some (arrival.At n)
 arrival_told (After n) part = Some (arrival.After n part)
 arrival_told Never part = None
 
--- what a table of the automaton says of the location: the run ends when it is come to, and the region is that of its first entry
-pub record ToldBy (t : Table) (l part : ℕ) (a : automata.Automaton) (w : Witness) : Type 0 where
+-- what a table of the automaton says of the location: the run ends when it is come to
+pub record ToldBy (l part : ℕ) (a : automata.Automaton) (w : Witness) : Type 0 where
   pub answer : Answer
   pub true_answer : AnswerIs a l answer
   pub arrival : arrival_told answer part ≡ Some w.arrival
-  pub entry : ℕ
-  pub first : LeastPost t.keys.now t.labels.now t.count l (Some entry)
-  pub region : region_value w.region ≡ region_at t.keys.now entry
 
--- a run of the automaton that is viewed, to the location, in time; and no run comes there at all where there is none
+-- the state in which the run ends shows the region, which is the normal one that it shows
+pub record EndsIn (a : automata.Automaton) (w : Witness) : Type 0 where
+  pub shows : (s : State) → Tells a.clocks w.run.denominator w.run.end s → ShowsState a s (region_value w.region)
+  pub normal : Normal a.clocks (top a) (region_value w.region)
+
+-- a run of the automaton that is viewed, to the location, in time, with the region in which it ends; and no run comes there at all where
+-- there is none
 abbrev pub WitnessIs : Automaton → Table → ℕ → ℕ → Option Witness → Type 0
 WitnessIs v t l part None =
     (row : List ℕ) (kinds : ℕ) (a : automata.Automaton) → TableIs row kinds t a → theory.Never a l
 WitnessIs v t l part (Some w) =
     Realised (automaton_value v) l w.arrival w.run
-    × ((row : List ℕ) (kinds : ℕ) (a : automata.Automaton) → TableIs row kinds t a → ToldBy t l part a w)
+    × EndsIn (automaton_value v) w
+    × ((row : List ℕ) (kinds : ℕ) (a : automata.Automaton) → TableIs row kinds t a → ToldBy l part a w)

@@ -2,16 +2,18 @@
 ghost use Rattle.std.specs.Prelude.{◌≡◌, IfOk};
 ghost use Rattle.witnesses.specs.Witnesses.{arrival_told, WitnessIs};
 
-use crate::trails::way_to;
+use crate::trails::edges_to;
+use cells::tops::frame_of;
 use cells::values::Region;
 use realise::arrivals::Arrival;
-use realise::runs::{Failure, Run, realise};
+use realise::ends::region_at;
+use realise::runs::{Failure, Run, realise_path};
 use rows::edges::Location;
 use rows::views::Automaton;
 use search::answers::{Answer, Table};
 use std::alloc::Global;
 
-// When a location is come to, a run that comes to it then, and the region that it is come to in.
+// When a location is come to, a run that comes to it then, and the region in which that run ends.
 #[derive(Drop)]
 pub struct Witness {
     pub arrival: Arrival,
@@ -49,9 +51,9 @@ pub fn witness_of(
         return Ok(None);
     };
     let entry = table.first(location.0 as usize).ok_or(Failure::Astray)?;
-    let region = table.region(entry).ok_or(Failure::Astray)?;
-    let way = way_to(heap, automaton, table, entry)?;
-    let run = realise(heap, automaton, way.as_slice(), location, arrival)?;
+    let edges = edges_to(heap, automaton, table, entry)?;
+    let run = realise_path(heap, automaton, edges.as_slice(), location, arrival)?;
+    let region = region_at(heap, &run.end, run.denominator, frame_of(*automaton))?;
     Ok(Some(Witness {
         arrival,
         run,

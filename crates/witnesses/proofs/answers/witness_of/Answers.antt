@@ -1,7 +1,8 @@
-use Rattle.std.proofs.Common.{sym, subst, arith}
-use Rattle.std.proofs.lemmas.Option.{MatchOption-at_some}
-use Rattle.search.specs.Least.{LeastPost}
+use Rattle.std.proofs.Common.{sym}
+use Rattle.rows.specs.Views.{automaton_value}
+use Rattle.cells.specs.Meaning.{region_value}
 use Rattle.witnesses.proofs.Answered.{never_shown}
+use Rattle.witnesses.proofs.Ending.{end_normal, end_shows}
 use Rattle.witnesses.proofs.answers.witness_of.Goals as goal
 
 pub returns-in_default : goal.returns-in_default
@@ -10,21 +11,21 @@ returns-in_default c =
     never_shown a c.args.location.0 c.args.part c.told-answer.result (sym c.in_default.ensures) (c.told-answer.ensures row kinds a is)
 
 pub returns : goal.returns
-returns c = (
-  c.in_ok-run.ensures,
-  λ row kinds a is.
-      let t = c.args.table.now in
-      let region = MatchOption-at_some _ _ c.in_ok-region.region c.in_ok-region.ensures.ok_part (c.region.ensures row kinds a is) in
+returns c =
+    let run = c.in_ok-run.run' in
+    let a = automaton_value c.args.automaton.now in
+    let frame = c.frame_of.result in
+    let K = region_value c.in_ok-region.region in
+    (
+      c.in_ok-run.ensures,
       record {
-        answer = c.told-answer.result;
-        true_answer = c.told-answer.ensures row kinds a is;
-        arrival = sym c.in-Some.ensures;
-        entry = c.in_ok-entry.entry;
-        first =
-            subst
-            (LeastPost t.keys.now t.labels.now t.count c.args.location.0)
-            c.in_ok-entry.ensures.ok_part
-            (c.first.ensures (omega (arith, c.if-location-locations.false, c.locations.ensures)));
-        region = region.1;
+        shows = end_shows a frame c.frame_of.ensures run.denominator run.end K c.in_ok-region.ensures c.in_ok-run.ensures.replayed.denominator;
+        normal = end_normal a frame c.frame_of.ensures run.denominator run.end K c.in_ok-region.ensures;
       },
-)
+      λ row kinds b is.
+          record {
+            answer = c.told-answer.result;
+            true_answer = c.told-answer.ensures row kinds b is;
+            arrival = sym c.in-Some.ensures;
+          },
+    )
