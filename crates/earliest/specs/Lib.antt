@@ -1,2 +1,3 @@
 -- What the promises of the program's functions cite.
+pub mod Explored
 pub mod Listed

@@ -12,6 +12,7 @@ use std::alloc::Global;
 use std::process::ExitCode;
 use std::{env, io};
 
+mod explored;
 mod help;
 mod lines;
 mod options;
@@ -40,7 +41,7 @@ fn write_answers(heap: Global, options: &Options, drawing: &Drawing) -> Result<S
     let positions = Positions { names, count };
     let position = find_position(heap, options, positions)?;
     let kinds = options.kinds.unwrap_or(kinds_that_fit(row.len()));
-    lines::write(heap, row, positions, kinds, position)
+    lines::write(heap, row, positions, options.engine, kinds, position)
 }
 
 // The help, and how many kinds of states fit for a clockwork.

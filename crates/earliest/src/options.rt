@@ -14,19 +14,29 @@ pub enum Output {
     Drawing,
 }
 
+// Which search answers: the one through zones and, where these do not fit, the one through regions; or one of them alone.
+#[derive(Clone, Copy, PartialEq, Eq)]
+pub enum Engine {
+    Either,
+    Zones,
+    Regions,
+}
+
 #[derive(Drop)]
 pub struct Options {
     pub text: Text,
     pub output: Output,
+    pub engine: Engine,
     // As many as fit where none.
     pub kinds: Option<u32>,
     // All where none.
     pub position: Option<String>,
 }
 
-const OPTIONS: [&str; 8] = [
+const OPTIONS: [&str; 9] = [
     "--position",
     "--kinds",
+    "--zones",
     "--rows",
     "--print-rows",
     "--print-drawing",
@@ -46,6 +56,7 @@ pub fn parse(heap: Global, mut words: Args) -> Result<Request<Options>, Mistake>
     // Both are only noted, and no value is beside them: a mistake in a later word is told first, and the version before the help.
     let mut help = false;
     let mut version = false;
+    let mut zones = false;
     let mut form = Form::Drawing;
     let mut output = None;
     let mut position = None;
@@ -56,6 +67,7 @@ pub fn parse(heap: Global, mut words: Args) -> Result<Request<Options>, Mistake>
         match word.as_str() {
             "--help" | "-h" => help = true,
             "--version" | "-V" => version = true,
+            "--zones" => zones = true,
             "--rows" => form = Form::Row,
             "--summary" => set_output(&mut output, Output::Summary, word)?,
             "--print-rows" => set_output(&mut output, Output::Row, word)?,
@@ -73,12 +85,26 @@ pub fn parse(heap: Global, mut words: Args) -> Result<Request<Options>, Mistake>
     if output.is_some() && position.is_some() {
         return Err(Mistake::Misplaced("--position"));
     }
+    if output.is_some() && zones {
+        return Err(Mistake::Misplaced("--zones"));
+    }
+    // A search through zones counts no kinds.
+    if zones && kinds.is_some() {
+        return Err(Mistake::Misplaced("--kinds"));
+    }
     if version {
         return Ok(Request::Version);
     }
     if help && file.is_none() {
         return Ok(Request::Help);
     }
+    let engine = if zones {
+        Engine::Zones
+    } else if kinds.is_some() {
+        Engine::Regions
+    } else {
+        Engine::Either
+    };
     let output = if help {
         Output::Help
     } else {
@@ -87,6 +113,7 @@ pub fn parse(heap: Global, mut words: Args) -> Result<Request<Options>, Mistake>
     Ok(Request::Show(Options {
         text: Text { form, file },
         output,
+        engine,
         kinds,
         position,
     }))
