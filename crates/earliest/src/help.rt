@@ -3,7 +3,7 @@ use console::programs::About;
 
 pub const ABOUT: About = About {
     program: "earliest",
-    version: "earliest 0.2.0\n",
+    version: "earliest 0.3.0\n",
     help: HELP,
 };
 
@@ -13,7 +13,8 @@ Tells for each position of a clockwork, which is a timed automaton, the earliest
   at 5     at 5, and not before
   after 2  as soon after 2 as one likes, but not at 2 or before
   never    at no time
-Or, where the search comes to more kinds of states than it has room for, one line: many: more than N kinds of states.
+It searches through zones, which are sets of states told apart by differences of clocks; where these do not fit into the memory, through
+kinds of states. Where there is no room for these either, it prints one line: many: more than N kinds of states.
 
 Usage: earliest [OPTION].. [FILE]
 
@@ -21,7 +22,8 @@ Without FILE, or where FILE is -, it reads standard input. FILE is a drawing.
 
 Options:
   --position NAME  tell it for this position only; a position without a name, or whose name is not known, by its number from 0
-  --kinds N        allow so many kinds of states, in place of as many as fit into the memory
+  --kinds N        search through kinds of states alone, and allow so many, in place of as many as fit into the memory
+  --zones          search through zones alone; where they do not fit, print one line: full: the zones do not fit into the memory
   --rows           read a row of numbers, with white space between them, in place of a drawing
   --print-rows     print the row of numbers of the clockwork
   --print-drawing  print a drawing of the clockwork, with clocks x0, x1, .. and positions p0, p1, ..

@@ -141,7 +141,13 @@ fn write_by_regions(
     if has_too_many(explored) {
         return write_many(heap, kinds);
     }
-    write_explored(heap, Explored::Regions(explored), positions, kinds, position)
+    write_explored(
+        heap,
+        Explored::Regions(explored),
+        positions,
+        kinds,
+        position,
+    )
 }
 
 // By a search through zones; none where these do not fit.

@@ -3,7 +3,7 @@ use console::programs::About;
 
 pub const ABOUT: About = About {
     program: "witness",
-    version: "witness 0.1.0\n",
+    version: "witness 0.2.0\n",
     help: HELP,
 };
 
@@ -18,7 +18,8 @@ Where FILE is - or left out, it reads standard input. FILE is a drawing.
 Options:
   --position NAME  the position; one without a name, or whose name is not known, by its number from 0
   --within E       where it can be reached only after a time, show a run that reaches it less than 1/E after it; without this, 100
-  --kinds N        allow so many kinds of states, in place of as many as fit into the memory
+  --kinds N        search through kinds of states alone, and allow so many, in place of as many as fit into the memory
+  --zones          search through zones alone; where they do not fit, print one line: full: the zones do not fit into the memory
   --rows           read a row of numbers, with white space between them, in place of a drawing
   --help           print this text
   --version        print the version

@@ -72,7 +72,14 @@ fn write_output(heap: Global, options: &Options, drawing: &Drawing) -> Result<St
         return Err(Trouble::NoPart);
     }
     let kinds = options.kinds.unwrap_or(kinds_that_fit(drawing.row.len()));
-    let finding = findings::find(heap, &automaton, kinds, location, options.part)?;
+    let finding = findings::find(
+        heap,
+        &automaton,
+        options.engine,
+        kinds,
+        location,
+        options.part,
+    )?;
     let clocks = names(heap, drawing.clocks.as_slice(), "x", automaton.clocks())?;
     let positions = names(heap, known, "", automaton.locations())?;
     let names = Names {

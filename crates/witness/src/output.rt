@@ -11,6 +11,7 @@ use rows::edges::Location;
 use rows::views::Automaton;
 use squares::shapes::of_region;
 use std::alloc::{AllocError, Global};
+use witnesses::answers::Witness;
 
 // The first line.
 fn write_first(
@@ -32,6 +33,23 @@ fn write_first(
     }
 }
 
+// The run, and what the clocks can be at its end.
+fn write_shown(
+    heap: Global,
+    text: &mut String,
+    automaton: &Automaton,
+    names: Names<'_>,
+    witness: &Witness,
+) -> Result<(), Trouble> {
+    let moves = witness.run.moves.as_slice();
+    let lines = write_run(heap, automaton, names, witness.run.denominator, moves)?;
+    text.push_str(lines.as_str())?;
+    let frame = frame_of(*automaton);
+    let square = of_region(&witness.region, frame.clocks, frame.top).ok_or(Trouble::Astray)?;
+    text.push_str(write_bounds(heap, names.clocks, &square)?.as_str())?;
+    Ok(())
+}
+
 pub fn write(
     heap: Global,
     automaton: &Automaton,
@@ -40,18 +58,13 @@ pub fn write(
     finding: &Finding,
 ) -> Result<String, Trouble> {
     let mut text = String::new(heap);
-    write_first(&mut text, names, location, finding.answer)?;
-    match &finding.shown {
-        Ok(Some(witness)) => {
-            let moves = witness.run.moves.as_slice();
-            let lines = write_run(heap, automaton, names, witness.run.denominator, moves)?;
-            text.push_str(lines.as_str())?;
-            let frame = frame_of(*automaton);
-            let square = of_region(&witness.region, frame.clocks, frame.top).ok_or(
-                Trouble::Astray,
-            )?;
-            text.push_str(write_bounds(heap, names.clocks, &square)?.as_str())?;
-        }
+    let Finding::Told { answer, shown } = finding else {
+        text.push_str("full: the zones do not fit into the memory\n")?;
+        return Ok(text);
+    };
+    write_first(&mut text, names, location, *answer)?;
+    match shown {
+        Ok(Some(witness)) => write_shown(heap, &mut text, automaton, names, witness)?,
         Ok(None) => {}
         Err(NoRoom) => text.push_str("no run is shown: its numbers have no place in 64 bits\n")?,
     }

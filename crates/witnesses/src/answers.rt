@@ -1,6 +1,7 @@
 // When a location is come to, with a run that shows it.
 ghost use Rattle.std.specs.Prelude.{◌≡◌, IfOk};
-ghost use Rattle.witnesses.specs.Witnesses.{arrival_told, WitnessIs};
+ghost use Rattle.rows.specs.Views.{automaton_value};
+ghost use Rattle.witnesses.specs.Witnesses.{arrival_told, ShownIs, WitnessIs, ZonesWitnessIs};
 
 use crate::trails::edges_to;
 use cells::tops::frame_of;
@@ -12,6 +13,7 @@ use rows::edges::Location;
 use rows::views::Automaton;
 use search::answers::{Answer, Table};
 use std::alloc::Global;
+use zone_search::answers::ZoneTable;
 
 // When a location is come to, a run that comes to it then, and the region in which that run ends.
 #[derive(Drop)]
@@ -30,6 +32,25 @@ fn arrival_for(answer: Answer, part: u32) -> Option<Arrival>
         Answer::After(time) => Some(Arrival::After { time, part }),
         Answer::Never => None,
     }
+}
+
+// A run along the edges of a path to the location, in time, with the region in which it ends.
+fn show(
+    heap: Global,
+    automaton: &Automaton,
+    edges: &[u32],
+    location: Location,
+    arrival: Arrival,
+) -> Result<Witness, Failure>
+    ensures { IfOk result (λ witness. ShownIs (automaton_value automaton.now) location.0 arrival witness) }
+{
+    let run = realise_path(heap, automaton, edges, location, arrival)?;
+    let region = region_at(heap, &run.end, run.denominator, frame_of(*automaton))?;
+    Ok(Witness {
+        arrival,
+        run,
+        region,
+    })
 }
 
 // A witness of what the table tells of a location: none where it is never come to. Where it is come to only after a time, the run
@@ -52,11 +73,24 @@ pub fn witness_of(
     };
     let entry = table.first(location.0 as usize).ok_or(Failure::Astray)?;
     let edges = edges_to(heap, automaton, table, entry)?;
-    let run = realise_path(heap, automaton, edges.as_slice(), location, arrival)?;
-    let region = region_at(heap, &run.end, run.denominator, frame_of(*automaton))?;
-    Ok(Some(Witness {
-        arrival,
-        run,
-        region,
-    }))
+    Ok(Some(show(heap, automaton, edges.as_slice(), location, arrival)?))
+}
+
+// The same of a table of zones.
+pub fn witness_of_zones(
+    heap: Global,
+    automaton: &Automaton,
+    table: &ZoneTable,
+    location: Location,
+    part: u32,
+) -> Result<Option<Witness>, Failure>
+    ensures { IfOk result (λ witness. ZonesWitnessIs automaton.now table.now location.0 part witness) }
+{
+    let answer = table.told(location.0 as usize);
+    let Some(arrival) = arrival_for(answer, part) else {
+        return Ok(None);
+    };
+    let entry = table.soonest(location.0 as usize).ok_or(Failure::Astray)?;
+    let edges = edges_to(heap, automaton, table, entry)?;
+    Ok(Some(show(heap, automaton, edges.as_slice(), location, arrival)?))
 }

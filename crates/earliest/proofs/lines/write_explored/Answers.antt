@@ -12,5 +12,5 @@ returns-in_default c =
     IfOk-weaker c.write_lines.result _
     (λ t. (row : List ℕ) (lent : ℕ) → ExploredIn row kinds lent c.args.explored → PositionsListed (ToldBy row kinds lent c.args.explored) kinds names count c.args.position (string_bytes t))
     (λ t listed row lent known.
-        subst (λ (p : Option ℕ). PositionsListed (ToldBy row kinds lent c.args.explored) kinds names count p (string_bytes t)) (sym c.in_default.is) (listed row lent known))
+    subst (λ (p : Option ℕ). PositionsListed (ToldBy row kinds lent c.args.explored) kinds names count p (string_bytes t)) (sym c.in_default.is) (listed row lent known))
     c.write_lines.ensures
