@@ -1,5 +1,5 @@
 -- What words and views stand for, where they are the writing of constraints, an edge or an automaton.
-use Rattle.std.proofs.Common.{◌≡◌, ℕ, ◌/◌, List, [], ◌∷◌, length, Some, sym, refl, ap, subst, ◌∙◌, arith}
+use Rattle.std.proofs.Common.{◌≡◌, ℕ, zero, suc, ◌*◌, ◌/◌, ◌≤◌, List, [], ◌∷◌, length, get_or, drop, Some, sym, refl, ap, subst, ◌∙◌, drop_of_length-le, arith}
 use mathlib.Core.Option.{Option, some}
 use Rattle.automata.specs.Automata as automata
 use Rattle.automata.specs.Automata.{nth}
@@ -8,6 +8,7 @@ use Rattle.rows.specs.declared.constraints.Conjunction.{Conjunction}
 use Rattle.rows.specs.declared.edges.Edge.{Edge}
 use Rattle.rows.specs.declared.views.Automaton.{Automaton}
 use Rattle.rows.specs.EdgeParts.{EdgeIs}
+use Rattle.rows.specs.Parse.{constraint}
 use Rattle.rows.specs.Values.{constraints_value, conjunction_value, edge_value}
 use Rattle.rows.specs.Viewed.{or_nothing, value_of}
 use Rattle.rows.specs.Views.{Views, automaton_value, InvariantIs}
@@ -28,6 +29,25 @@ length-constraints_value [] = refl
 length-constraints_value (c ∷ []) = refl
 length-constraints_value (c ∷ r ∷ []) = refl
 length-constraints_value (c ∷ r ∷ b ∷ ws) = omega (arith, length-constraints_value ws)
+
+-- the constraint at a place is the first of those that the words from there on stand for
+pub nth-constraints_value : (ws : List ℕ) (n : ℕ) → nth (constraints_value ws) n ≡ nth (constraints_value (drop (n * 3) ws)) 0
+nth-constraints_value ws zero = refl
+nth-constraints_value [] (suc n) = rw (drop_of_length-le {A = ℕ} [] {i = suc n * 3} (omega arith))
+nth-constraints_value (c ∷ []) (suc n) = rw (drop_of_length-le (c ∷ []) {i = suc n * 3} (omega arith))
+nth-constraints_value (c ∷ r ∷ []) (suc n) = rw (drop_of_length-le (c ∷ r ∷ []) {i = suc n * 3} (omega arith))
+nth-constraints_value (c ∷ r ∷ b ∷ ws) (suc n) =
+    let e : suc n * 3 ≡ suc (suc (suc (n * 3))) = omega arith in
+    rw e (nth-constraints_value ws n)
+
+-- three words stand for a constraint, and fewer for none
+pub first_constraint : (ws : List ℕ)
+    → 3 ≤ length ws
+    → nth (constraints_value ws) 0 ≡ some (constraint (get_or ws 0 0) (get_or ws 1 0) (get_or ws 2 0))
+first_constraint [] h = absurd (omega arith)
+first_constraint (c ∷ []) h = absurd (omega arith)
+first_constraint (c ∷ r ∷ []) h = absurd (omega arith)
+first_constraint (c ∷ r ∷ b ∷ ws) h = refl
 
 -- an edge that has these parts stands for it
 pub edge_value-is : (v : Edge) (e : automata.Edge) → EdgeIs v e → edge_value v ≡ e

@@ -160,7 +160,14 @@ impl<'a> Conjunction<'a> {
     pub fn get(&self, place: usize) -> Option<Constraint>
         ensures { ConstraintIs (nth (conjunction_value self.now) place) result }
     {
-        self.iter().nth(place)
+        let [clock, relation, bound, ..] = *self.words.get(place.checked_mul(3)?..)? else {
+            return None;
+        };
+        Some(Constraint {
+            clock: Clock(clock),
+            relation: decode_relation(relation),
+            bound,
+        })
     }
 
     pub fn iter(&self) -> Constraints<'a>

@@ -78,6 +78,10 @@ impl<'a> Automaton<'a> {
     pub fn invariant(&self, location: Location) -> Option<Conjunction<'a>>
         ensures { InvariantIs (nth (automaton_value self.now).invariants location.0) result }
     {
+        // so a location that is none is told without a walk over the row
+        if location.0 >= self.locations {
+            return None;
+        }
         self.invariants().nth(location.0 as usize)
     }
 
