@@ -56,10 +56,10 @@ fn compare_drawing(reporter: &mut Reporter, file: &str) -> io::Result<()> {
 }
 
 // Compares all examples, and prints what comes of it and what was counted.
-pub fn compare_examples(rt: &HostRuntime) -> io::Result<Counts> {
-    let mut reporter = Reporter::new(rt)?;
+pub fn compare_examples(reporter: &mut Reporter) -> io::Result<Counts> {
+    reporter.count_anew();
     for file in FILES {
-        compare_drawing(&mut reporter, file)?;
+        compare_drawing(reporter, file)?;
     }
     reporter.print_counts()?;
     Ok(reporter.counts)

@@ -53,12 +53,21 @@ impl<'a> Reporter<'a> {
         })
     }
 
+    // Nothing is counted any more; the words stay as they are.
+    pub fn count_anew(&mut self)
+        ensures counts { (self.new.counts.followed ≡ 0) × (self.new.counts.differences ≡ 0) }
+        ensures words { self.new.work ≡ self.old.work }
+    {
+        self.counts = Counts::default();
+    }
+
     // The opinions on the automaton of a row; none where it has too many states, and an error where the row is none.
     pub fn opinions_on(&mut self, row: &[u32]) -> io::Result<Option<Vec<Opinion>>>
         ensures row { IfOk result (λ _. (a : automata.Automaton) × Reads row.now a) }
         ensures held { IfOk result (λ all. MatchOption all (4000000 < states_of (value_of row.now)) (λ _. states_of (value_of row.now) ≤ 4000000)) }
         ensures judged { IfOk result (λ all. IfSome all (λ opinions. AllOpinions opinions.items)) }
         ensures counts { self.new.counts ≡ self.old.counts }
+        ensures words { vec_len self.new.work ≡ vec_len self.old.work }
     {
         let rt = self.rt;
         let automaton = reader::read(row).try_map_err(|refusal| {

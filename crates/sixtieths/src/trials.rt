@@ -23,12 +23,12 @@ fn compare_row(reporter: &mut Reporter, row: &[u32]) -> io::Result<()> {
 }
 
 // Compares all that the seed gives, and prints what was counted.
-pub fn compare_inventions(rt: &HostRuntime) -> io::Result<Counts> {
-    let mut reporter = Reporter::new(rt)?;
+pub fn compare_inventions(reporter: &mut Reporter) -> io::Result<Counts> {
+    reporter.count_anew();
     let mut numbers = Generator::new(SEED);
     for _ in 0..AUTOMATA {
-        let row = invent(rt.alloc(), &mut numbers)?;
-        compare_row(&mut reporter, row.as_slice())?;
+        let row = invent(reporter.rt.alloc(), &mut numbers)?;
+        compare_row(reporter, row.as_slice())?;
     }
     reporter.print_counts()?;
     Ok(reporter.counts)
