@@ -62,9 +62,8 @@ fn text_len(text: &str) -> usize {
 fn cut_sign(text: &str) -> Option<(Sign, &str)>
     ensures { IfSome result (λ x. text.now ≡ text_of x.0 ++ x.1.now) }
 {
-    SIGNS
-        .into_iter()
-        .find_map(|sign| Some((sign, text.strip_prefix(sign.text())?)))
+    let sign = SIGNS.iter().find(|sign| text.starts_with(sign.text()))?;
+    Some((*sign, text.strip_prefix(sign.text())?))
 }
 
 // The name or number that a text begins with, and what is past it.
