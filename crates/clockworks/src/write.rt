@@ -9,6 +9,7 @@ use crate::parts::{Clockwork, Position, Step, Test};
 use rows::constraints::UnknownRelation;
 use rows::limits::{LOCATIONS, MOST_BOUND, MOST_CLOCKS, MOST_WORDS};
 use std::alloc::{AllocError, Global};
+use std::fmt;
 use thiserror::Error;
 
 // Why a clockwork has no row, or a row is no clockwork's.
@@ -47,6 +48,13 @@ impl From<UnknownRelation> for Unfit {
 
     fn from(_e: UnknownRelation) -> Unfit {
         Unfit::Relation
+    }
+}
+
+// Only want of memory keeps a text from being written.
+impl From<fmt::Error> for Unfit {
+    fn from(_e: fmt::Error) -> Unfit {
+        Unfit::Memory(AllocError)
     }
 }
 

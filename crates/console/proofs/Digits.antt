@@ -1,5 +1,5 @@
--- A word of digits: what the library reads of it is the number that is put together digit by digit.
-use Rattle.std.proofs.Common.{◌≡◌, ℕ, ◌+◌, ◌-◌, ◌*◌, ◌<◌, ◌≤◌, ◌^◌, true, false, List, [], ◌∷◌, ◌++◌, length, get_or, Some, None, Option, sym, refl, ap, ◌∙◌, arith, rules, ◌&&◌, Bool, ltb, Result, Ok, Err, Bor}
+-- A word of digits: the number that is put together digit by digit is what the library reads of it, and what a fold comes to.
+use Rattle.std.proofs.Common.{◌≡◌, ℕ, ◌+◌, ◌-◌, ◌*◌, ◌<◌, ◌≤◌, ◌^◌, true, false, List, [], ◌∷◌, ◌++◌, length, get_or, Some, None, Option, sym, refl, ap, ◌∙◌, arith, rules, ◌&&◌, Bool, ltb, Result, Ok, Err, Bor, subst}
 use Rattle.std.specs.Char.{is_ascii_digit}
 use Rattle.std.specs.Result.{MatchResult, OkIff, result_ok}
 use Rattle.std.specs.Str.{all_ascii_digits, IsUtf8}
@@ -8,6 +8,11 @@ use Rattle.std.proofs.lemmas.Str.{IsUtf8-from_ascii}
 use Rattle.std.proofs.lemmas.Bool.{false≢true, and_parts, ltb-true, ltb-false}
 use Rattle.std.proofs.lemmas.Bool.Decides.{nat_tests}
 use Rattle.std.proofs.lemmas.Str.Parse.{IsNumeralModel, numerals_by_fold}
+use denote.Param.Members.{Mut, Called}
+use Rattle.std.specs.ControlFlow.{continue_value}
+use Rattle.std.specs.Option.{MatchOption}
+use Rattle.std.specs.Iterator.{Yields, AlwaysYields, TryFoldTurn, TryFoldsItems}
+use Rattle.std.specs.List.{FoldsTo}
 use Rattle.console.specs.Numbers.{digit_pushed, push_all, number_of}
 
 -- the number that digits go on with
@@ -98,3 +103,32 @@ not_text X bs (Err f) e h = h.0
 pub same_text : {E : Type 0} (X : E → Type 0) (bs : List ℕ) (s : Bor (List ℕ)) (r : Result (Bor (List ℕ)) E) → Some s ≡ result_ok r → MatchResult r (λ t. (t.now ≡ bs) × IsUtf8 bs) X → s.now ≡ bs
 same_text X bs s (Ok t) e h = let one : s ≡ t = cc in ap (λ (b : Bor (List ℕ)). b.now) one ∙ h.0
 same_text X bs s (Err f) e h = cc
+
+pub some_digits : (word : List ℕ) → (length word ≡ 0 → ⊥) → number_of word ≡ push_all (Some 0) word
+some_digits [] ne = absurd (ne refl)
+some_digits (b ∷ bs) ne = refl
+
+-- what a fold by `digit_pushed` comes to that ends at the first `None`
+module _ {S A F : Type 0} (E : Type 0) (steps : S → Option A → S → Type 0) (v : A → ℕ) (g : Mut F (ℕ × (A × Unit {0})) (Option ℕ)) (pushes : (n : ℕ) (x : A) (o : Option ℕ) (f h : F) → Called g f (n, (x, tt)) o h → o ≡ digit_pushed n (v x)) (r : Option ℕ) (u : S) where
+  tried : (xs : List A) (o : Option A) (word : List ℕ) (s t : S) (f h : F) (n a : ℕ) → Yields steps s xs t → steps t o u → FoldsTo {P = F × ℕ} (TryFoldTurn {E = E} g (λ w c. w ≡ continue_value c)) (f, n) xs (h, a)
+      → MatchOption o (r ≡ Some a) (λ x. (w : Option ℕ) × (k : F) × (e : E) × Called g h (a, (x, tt)) w k × (w ≡ None) × (r ≡ None))
+      → AlwaysYields steps v s word → r ≡ push_all (Some n) word
+  tried [] None [] s t f h n a y last c ends all = ends ∙ ap (λ (p : F × ℕ). Some p.1) (sym c)
+  tried [] (Some x) [] s t f h n a y last c ends all = absurd (all x u (subst (λ (i : S). steps i (Some x) u) (sym y) last))
+  tried [] None (b ∷ bs) s t f h n a y last c ends all = absurd (all.0 u (subst (λ (i : S). steps i None u) (sym y) last))
+  tried [] (Some x) (b ∷ bs) s t f h n a y last c ends all =
+      let item : v x ≡ b = (all.1 x u (subst (λ (i : S). steps i (Some x) u) (sym y) last)).0 in
+      let total : n ≡ a = ap (λ (p : F × ℕ). p.1) c in
+      let none : digit_pushed n b ≡ None = ap (λ m. digit_pushed m b) total ∙ (ap (digit_pushed a) (sym item) ∙ (sym (pushes a x ends.0 h ends.1 ends.3) ∙ ends.4)) in
+      ends.5 ∙ sym (ap (λ (o : Option ℕ). push_all o bs) none)
+  tried (x ∷ xs) o [] s t f h n a y last c ends all = absurd (all x y.0 y.1)
+  tried (x ∷ xs) o (b ∷ bs) s t f h n a y last c ends all =
+      let here = all.1 x y.0 y.1 in
+      let some : digit_pushed n b ≡ Some c.0.1 = ap (digit_pushed n) (sym here.0) ∙ (sym (pushes n x c.1.0 f c.0.0 c.1.1) ∙ c.1.2) in
+      tried xs o bs y.0 t c.0.0 h c.0.1 a y.2 last c.2 ends here.1 ∙ sym (ap (λ (o : Option ℕ). push_all o bs) some)
+
+pub tried_all : {S A F E : Type 0} (steps : S → Option A → S → Type 0) (v : A → ℕ) {g : Mut F (ℕ × (A × Unit {0})) (Option ℕ)} {r : Option ℕ} {u s : S} {f : F} (n : ℕ) (word : List ℕ)
+    → TryFoldsItems steps g (λ w c. w ≡ continue_value c) (λ (e : E) w. w ≡ None) s f n r u → AlwaysYields steps v s word
+    → ((m : ℕ) (x : A) (o : Option ℕ) (h k : F) → Called g h (m, (x, tt)) o k → o ≡ digit_pushed m (v x)) → r ≡ push_all (Some n) word
+tried_all {E = E} steps v {g} {r} {u} {s} {f} n word d all pushes =
+    tried E steps v g pushes r u d.0 d.1 word s d.4.0 f d.2 n d.3 d.4.1 d.4.2 d.5 d.6 all

@@ -6,8 +6,10 @@ use crate::budget::TEXT_BYTES;
 use crate::messages::Problem;
 use std::alloc::Global;
 use std::fs::File;
-use std::io::Read;
+use std::io::{ErrorKind, Read};
 use std::{fmt, io};
+
+const CHUNK: usize = 4096;
 
 // An Option of a name would not say what is read where there is none.
 #[derive(Clone, Copy)]
@@ -37,20 +39,31 @@ impl<'a> fmt::Display for Source<'a> {
     }
 }
 
-// One byte more than a text may have is read, to tell a text that is too large, and there is room for another, so that the bytes never move.
+// One byte more than a text may have is read, to tell a text that is too large, and there is room for it, so that the bytes never move.
+// No `read_to_end`, which fills all the room that it reads into with zeros first: here a chunk is filled once. What a signal interrupts is tried again.
 fn read_all(heap: Global, reader: &mut impl Read) -> Result<Vec<u8>, Problem>
     ensures { IfOk result (λ bytes. vec_len bytes ≤ 262144) }
 {
-    let mut bytes = Vec::with_capacity(heap, TEXT_BYTES + 2)?;
-    reader
-        .by_ref()
-        .take(TEXT_BYTES as u64 + 1)
-        .read_to_end(&mut bytes)
-        .map_err(Problem::Unreadable)?;
-    if bytes.len() > TEXT_BYTES {
-        return Err(Problem::TooLarge);
+    let mut bytes = Vec::with_capacity(heap, TEXT_BYTES + 1)?;
+    let mut most = reader.by_ref().take(TEXT_BYTES as u64 + 1);
+    let mut chunk = [0u8; CHUNK];
+    for _ in 0..usize::MAX {
+        match most.read(&mut chunk) {
+            Ok(0) => {
+                if bytes.len() > TEXT_BYTES {
+                    return Err(Problem::TooLarge);
+                }
+                return Ok(bytes);
+            }
+            Ok(count) => bytes.extend_from_slice(&chunk[..count])?,
+            Err(error) => {
+                if error.kind() != ErrorKind::Interrupted {
+                    return Err(Problem::Unreadable(error));
+                }
+            }
+        }
     }
-    Ok(bytes)
+    Err(Problem::Unreadable(io::Error::from(ErrorKind::TimedOut)))
 }
 
 // At most as many bytes as a text may have.

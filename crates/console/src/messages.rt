@@ -86,6 +86,15 @@ impl From<Unfit> for Problem {
     }
 }
 
+// Only want of memory keeps a text from being written.
+impl From<fmt::Error> for Problem {
+    ghost from_gives = { λ _ problem. problem ≡ Memory };
+
+    fn from(_e: fmt::Error) -> Problem {
+        Problem::Memory
+    }
+}
+
 impl fmt::Display for Found {
     fn fmt<W: fmt::Write>(&self, f: &mut fmt::Formatter<W>) -> fmt::Result {
         match self {

@@ -1,7 +1,7 @@
 // A row of numbers as text: decimal numbers with white space between them, and the place of each.
 ghost use Rattle.std.specs.Prelude.{◌≡◌, ◌+◌, ◌-◌, ◌≤◌, not, ◌++◌, length, position, IfOk, string_bytes, codes, MatchResult};
 ghost use Rattle.std.specs.Bool.{beq};
-ghost use Rattle.console.specs.Numbers.{number_of};
+ghost use Rattle.console.specs.Numbers.{digit_pushed, number_of};
 ghost use Rattle.console.specs.declared.numbers.Mistake.TheVariants.{Memory};
 ghost use Rattle.console.specs.Rows.{blank as isBlankByte, FirstBlank, RowIs, RowRefused};
 ghost use Rattle.rows.specs.Numbers.{numbers_text};
@@ -91,15 +91,25 @@ impl<'a> Iterator for Words<'a> {
     }
 }
 
-// The number that a word of digits writes, if it is one and fits.
+// One digit more, if the number still fits.
+fn push_digit(number: u32, byte: u8) -> Option<u32>
+    ensures { result ≡ digit_pushed number byte }
+{
+    if !byte.is_ascii_digit() {
+        return None;
+    }
+    number.checked_mul(10)?.checked_add(u32::from(byte - b'0'))
+}
+
+// The number that a word of digits writes, if it is one and fits. In one walk: the library's `parse` asks for text first, and takes a plus.
 pub fn parse(word: &[u8]) -> Option<u32>
     ensures { result ≡ number_of word.now }
 {
-    // The library takes a plus in front as well.
-    if word.starts_with(b"+") {
+    if word.is_empty() {
         return None;
     }
-    std::str::from_utf8(word).ok()?.parse().ok()
+    word.iter()
+        .try_fold(0, |number, byte| push_digit(number, *byte))
 }
 
 // The numbers of the text.
