@@ -38,6 +38,8 @@ struct Path<'a> {
     // the point at which each clock was last set back
     resets: [usize; CLOCKS],
     demands: Vec<Demand>,
+    // how many demands there were before the edge that is taken now
+    before: usize,
 }
 
 impl<'a> Path<'a> {
@@ -48,7 +50,22 @@ impl<'a> Path<'a> {
             now: 0,
             resets: [0; CLOCKS],
             demands: Vec::new(heap),
+            before: 0,
         }
+    }
+
+    // What is asked now. Of what is asked now of the same two points only the sharper is kept, so that many constraints of one clock take no more room than two.
+    fn demand(&mut self, asked: Demand) -> Result<(), AllocError> {
+        if let Some(fresh) = self.demands.as_mut_slice().get_mut(self.before..) {
+            for kept in fresh {
+                if kept.is_beside(asked) {
+                    *kept = kept.sharper(asked);
+                    return Ok(());
+                }
+            }
+        }
+        self.demands.push(asked)?;
+        Ok(())
     }
 
     // The constraints hold now. A clock that there is none of stays as at the start.
@@ -59,7 +76,7 @@ impl<'a> Path<'a> {
                 .get(constraint.clock.0 as usize)
                 .copied()
                 .unwrap_or(0);
-            self.demands.push(demand_of(constraint, since, self.now))?;
+            self.demand(demand_of(constraint, since, self.now))?;
         }
         Ok(())
     }
@@ -76,7 +93,8 @@ impl<'a> Path<'a> {
     fn wait(&mut self) -> Result<(), Failure> {
         let since = self.now;
         self.now = since.checked_add(1).ok_or(Failure::NoRoom)?;
-        self.demands.push(Demand {
+        self.before = self.demands.len();
+        self.demand(Demand {
             point: self.now,
             since,
             delay: 0,

@@ -22,6 +22,20 @@ pub struct Demand {
 const START: Instant = Instant { whole: 0, units: 0 };
 
 impl Demand {
+    // Whether both are of the same two points.
+    pub fn is_beside(self, other: Demand) -> bool {
+        self.point == other.point && self.since == other.since
+    }
+
+    // Of two demands of the same two points the one by which the other is met too.
+    pub fn sharper(self, other: Demand) -> Demand {
+        if (self.delay, self.later) < (other.delay, other.later) {
+            other
+        } else {
+            self
+        }
+    }
+
     // The least instant of its point, by where the other one is.
     fn least(self, since: Instant) -> Option<Instant> {
         Some(Instant {
@@ -43,10 +57,14 @@ impl Demand {
     }
 }
 
-// Puts points off by each demand in turn; whether one of them was not met.
+// Puts points off by each demand in turn, and by each in turn from the last one back; whether one of them was not met. A chain of demands that goes on along
+// the path is met by the one, a chain that goes back by the other.
 fn enforce_all(points: &mut [Instant], demands: &[Demand]) -> Result<bool, Failure> {
     let mut changed = false;
     for demand in demands {
+        changed |= demand.enforce(points)?;
+    }
+    for demand in demands.iter().rev() {
         changed |= demand.enforce(points)?;
     }
     Ok(changed)
